@@ -1,0 +1,12 @@
+-- `controller::Controller::at_end` meets its contract: four fields are set. Assumes nothing.
+use borrow.Author.Needs.{needs}
+use Rattle.controller.specs.Capture.{ended}
+use Rattle.controller.proofs.Controller.at_end.Statement.{statement}
+use Rattle.controller.proofs.Controller.at_end.Tie as tie
+
+returns : tie.Need-returns
+unfolding ended
+returns c = cc
+
+pub at-end-spec : {M : Type 1} → statement M
+at-end-spec = tie.close (tie.spec (λ c. search needs) (λ c κs. search needs) (λ c. search needs) returns)

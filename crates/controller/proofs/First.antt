@@ -1,0 +1,64 @@
+-- Laws of the first reversed element. Assumes nothing.
+use mathlib.Core.Path.{_≡_, refl, sym, ap, _∙_}
+use mathlib.Core.Bool.{Bool, true, false}
+use mathlib.Core.List.{List}
+use Prim.Native.Nat.{ℕ, zero, suc, _+_, _-_, _*_, _/_, _%_, _<_, _≤_}
+use native.Mathlib.Numerals.{add-one}
+use native.Mathlib.Omega.{arith}
+use lib.Dec.{ltb}
+use lib.ListN.{getD}
+use Rattle.controller.specs.declared.Controller.{Controller}
+use Rattle.controller.specs.declared.Refusal.the-variants.{State}
+use Rattle.controller.specs.State.{cantExist}
+use Rattle.controller.specs.Outcome.{numberOf}
+use Rattle.controller.specs.Inspect.{reversed, firstIn, inspectMeans}
+
+-- L > M, or else M > H
+module _ (regs : List ℕ) (row column : ℕ) where
+  pub reversed-left : ltb (getD regs (6 + 3 * (4 * row + column) + 1) 0) (getD regs (6 + 3 * (4 * row + column)) 0) ≡ true → reversed regs row column ≡ true
+  unfolding reversed
+  reversed-left h = simp h
+
+  pub reversed-right : ltb (getD regs (6 + 3 * (4 * row + column) + 1) 0) (getD regs (6 + 3 * (4 * row + column)) 0) ≡ false → reversed regs row column ≡ ltb (getD regs (6 + 3 * (4 * row + column) + 2) 0) (getD regs (6 + 3 * (4 * row + column) + 1) 0)
+  unfolding reversed
+  reversed-right h = simp h
+
+-- the three answers
+pub inspect-state : (c : Controller) → cantExist c ≡ true → inspectMeans c ≡ record { number = numberOf State; found = false; row = 0; column = 0 }
+unfolding inspectMeans
+inspect-state c h = simp h
+
+module _ (c : Controller) (k : ℕ) (first : k ≡ firstIn (c .registers) 0 16) (can : cantExist c ≡ false) where
+  pub inspect-level : ltb k 16 ≡ false → inspectMeans c ≡ record { number = 0; found = false; row = 0; column = 0 }
+  unfolding inspectMeans
+  inspect-level h = simp (can, sym first, h)
+
+  pub inspect-at : ltb k 16 ≡ true → inspectMeans c ≡ record { number = 0; found = true; row = k / 4; column = k % 4 }
+  unfolding inspectMeans
+  inspect-at h = simp (can, sym first, h)
+
+module _ (regs : List ℕ) (row column : ℕ) (r : row < 4) (k : column < 4) where
+  -- the element of a row and column, by its number
+  place : reversed regs ((4 * row + column) / 4) ((4 * row + column) % 4) ≡ reversed regs row column
+  place =
+      let q : (4 * row + column) / 4 ≡ row = omega arith in
+      let m : (4 * row + column) % 4 ≡ column = omega arith in
+      rw (q, m)
+
+  left : 16 - (4 * row + column) ≡ suc (16 - (4 * row + column + 1))
+  left = omega arith
+
+  pub first-skip : reversed regs row column ≡ false → firstIn regs (4 * row + column) (16 - (4 * row + column)) ≡ firstIn regs (4 * row + (column + 1)) (16 - (4 * row + (column + 1)))
+  unfolding firstIn
+  first-skip h =
+      let e : suc (4 * row + column) ≡ 4 * row + (column + 1) = omega arith in
+      let f : 16 - (4 * row + column + 1) ≡ 16 - (4 * row + (column + 1)) = omega arith in
+      rw left (simp (place ∙ h) (rw (e, f)))
+
+  pub first-hit : reversed regs row column ≡ true → firstIn regs (4 * row + column) (16 - (4 * row + column)) ≡ 4 * row + column
+  unfolding firstIn
+  first-hit h = rw left (simp (place ∙ h))
+
+pub first-none : (regs : List ℕ) → firstIn regs 16 0 ≡ 16
+unfolding firstIn
+first-none regs = refl

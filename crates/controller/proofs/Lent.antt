@@ -1,0 +1,77 @@
+-- Laws of the lengths that are allowed: whole banks, one at least, and a byte of a bank stands inside. Assumes nothing.
+use mathlib.Core.Path.{_≡_, refl}
+use mathlib.Core.Bool.{Bool, true, false, _&&_}
+use Prim.Native.Nat.{ℕ, zero, suc, _+_, _*_, _/_, _%_, _<_, _≤_}
+use native.Mathlib.Nat.{mod-lt, mul-le-mul-right, div-add-mod'}
+use native.Mathlib.Omega.{arith}
+use lib.Dec.{eqb, leb}
+use lib.Count.{ones, onesIn}
+use borrow.Author.Tests.{eqb-true, leb-true}
+use Rattle.controller.specs.Lent.{banksAllowed, romAllowed, ramAllowed, frameAllowed}
+
+-- each of two tests that both hold
+pub both-left : (a b : Bool) → (a && b) ≡ true → a ≡ true
+both-left true b h = refl
+both-left false b h = h
+
+pub both-right : (a b : Bool) → (a && b) ≡ true → b ≡ true
+both-right true b h = h
+both-right false b h = let z : _≡_ {A = ℕ} 0 1 = cc in absurd (omega arith)
+
+-- a number with a bit set is not 0
+some-bit : (n : ℕ) → ones n ≡ 1 → 0 < n
+unfolding ones onesIn
+some-bit zero h = omega arith
+some-bit (suc n) h = omega arith
+
+-- a length of whole banks, at least one and at most so many
+pub record Banks (size most n : ℕ) : Type 0 where
+  pub whole : n % size ≡ 0
+  pub some : 0 < n / size
+  pub few : n / size ≤ most
+
+pub banks : (size most n : ℕ) → banksAllowed size most n ≡ true → Banks size most n
+unfolding banksAllowed
+banks size most n h =
+    let few = leb (n / size) most in
+    let one = eqb (ones (n / size)) 1 in
+    let rest : (few && one) ≡ true = both-right (eqb (n % size) 0) (few && one) h in
+    record {
+      whole = eqb-true _ _ (both-left (eqb (n % size) 0) (few && one) h);
+      some = some-bit _ (eqb-true _ _ (both-right few one rest));
+      few = leb-true _ _ (both-left few one rest);
+    }
+
+-- byte a of bank b, both taken modulo what there is, stands inside
+pub inside : (size most n b a : ℕ) → 0 < size → Banks size most n → b % (n / size) * size + a % size < n
+inside size most n b a pos h =
+    omega
+    (arith, mod-lt a pos, mul-le-mul-right size (mod-lt b (h .some)), div-add-mod' n size, h .whole)
+
+-- the RAM's lengths
+pub record RamLent (n : ℕ) : Type 0 where
+  pub least : 8192 ≤ n
+  pub most : n ≤ 131072
+  pub whole : n % 8192 ≡ 0
+
+pub ram-lent : (n : ℕ) → ramAllowed n ≡ true → RamLent n
+ram-lent n h = let b = banks 8192 16 n h in omega arith
+
+pub ram-inside : (n b a : ℕ) → ramAllowed n ≡ true → b % (n / 8192) * 8192 + a % 8192 < n
+ram-inside n b a h = inside 8192 16 n b a (omega arith) (banks 8192 16 n h)
+
+-- the ROM's
+pub record RomLent (n : ℕ) : Type 0 where
+  pub least : 16384 ≤ n
+  pub most : n ≤ 1048576
+  pub whole : n % 16384 ≡ 0
+
+pub rom-lent : (n : ℕ) → romAllowed n ≡ true → RomLent n
+rom-lent n h = let b = banks 16384 64 n h in omega arith
+
+pub rom-inside : (n b a : ℕ) → romAllowed n ≡ true → b % (n / 16384) * 16384 + a % 16384 < n
+rom-inside n b a h = inside 16384 64 n b a (omega arith) (banks 16384 64 n h)
+
+-- a frame's
+pub frame-lent : (n : ℕ) → frameAllowed n ≡ true → n ≡ 16384
+frame-lent n h = eqb-true n 16384 h

@@ -1,0 +1,110 @@
+-- A tick of a + b cycles is a tick of a, and then one of b: the counts add up. Assumes nothing.
+use mathlib.Core.Path.{_≡_, refl, sym, ap, _∙_}
+use mathlib.Core.Bool.{Bool, true, false, _&&_}
+use mathlib.Core.List.{List}
+use Prim.Native.Nat.{ℕ, zero, suc, _+_, _<_, _≤_}
+use native.Mathlib.Nat.{add-zero, add-assoc}
+use native.Mathlib.Omega.{arith}
+use lib.ListN.{length}
+use Rattle.laws.specs.Pick.{pick}
+use Rattle.laws.specs.Iter.{iter, iter-add, iter-maps, iter-keeps}
+use Rattle.laws.proofs.Order.{split}
+use Rattle.controller.specs.declared.Controller.{Controller}
+use Rattle.controller.specs.Timing.{totalOf}
+use Rattle.controller.specs.State.{cantExist, started}
+use Rattle.controller.specs.Lent.{ramAllowed, frameAllowed}
+use Rattle.controller.specs.Outcome.{Outcome, outcome}
+use Rattle.controller.specs.Capture.{Ticking, putPixel, writtenAt, moved, ended, running, runs, cycle, ticks, from}
+use Rattle.controller.specs.Calls.{tickMeans, ticked}
+use Rattle.controller.proofs.Lent.{both-left}
+use Rattle.controller.proofs.Exists.{before-total, exists-moved, exists-ended}
+use Rattle.controller.proofs.Range.{put-length}
+use Rattle.controller.proofs.Ticks.{rest, cycle-on, cycle-last}
+use Rattle.controller.proofs.Refused.{tick-state, tick-ram, tick-store, tick-done}
+
+-- a function of a pick is a pick of its values
+pub ap-pick : {X Y : Type 0} (f : X → Y) (b : Bool) (x y : X) → f (pick b x y) ≡ pick b (f x) (f y)
+ap-pick f true x y = refl
+ap-pick f false x y = refl
+
+pick-same : {X : Type 0} (b : Bool) (x : X) → pick b x x ≡ x
+pick-same true x = refl
+pick-same false x = refl
+
+-- a test passes or fails
+either : {X : Type 0} (b : Bool) → (b ≡ true → X) → (b ≡ false → X) → X
+either true f g = f refl
+either false f g = g refl
+
+-- ---- cycles, one after the other
+
+pub ticks-add : (frame : List ℕ) (a b : ℕ) (w : Ticking) → ticks frame (a + b) w ≡ ticks frame b (ticks frame a w)
+ticks-add frame a b w = iter-add (cycle frame) a b w
+
+-- r more cycles that ran
+abbrev pub more : ℕ → Ticking → Ticking
+more r w = record { state = w .state; ram = w .ram; ran = r + w .ran }
+
+pub more-cycle : (frame : List ℕ) (r : ℕ) (w : Ticking) → cycle frame (more r w) ≡ more r (cycle frame w)
+unfolding cycle runs
+more-cycle frame r w = simp (ap-pick (more r), add-assoc)
+
+-- the counts add up
+pub ticks-sum : (frame : List ℕ) (a b : ℕ) (c : Controller) (ram : List ℕ)
+    → ticks frame (a + b) (from c ram) ≡ more (ticks frame a (from c ram) .ran) (ticks frame b (from (ticks frame a (from c ram) .state) (ticks frame a (from c ram) .ram)))
+ticks-sum frame a b c ram =
+    let w = ticks frame a (from c ram) in
+    ticks-add frame a b (from c ram)
+    ∙ ap (iter (cycle frame) b) (rw add-zero)
+    ∙ iter-maps (cycle frame) (cycle frame) (more (w .ran)) (more-cycle frame (w .ran)) b (from (w .state) (w .ram))
+
+-- ---- what a cycle keeps: a state that can exist, and the RAM's length
+
+written-length : (frame regs : List ℕ) (e : ℕ) (ram : List ℕ) → length (writtenAt frame regs e ram) ≡ length ram
+unfolding writtenAt putPixel
+written-length frame regs e ram = simp (ap-pick (λ (l : List ℕ). length l), put-length, pick-same)
+
+-- the state can exist, and the RAM has so many bytes
+pub record Kept (n : ℕ) (w : Ticking) : Type 0 where
+  pub exists : cantExist (w .state) ≡ false
+  pub long : length (w .ram) ≡ n
+
+pub cycle-keeps : (frame : List ℕ) (n : ℕ) (w : Ticking) → Kept n w → Kept n (cycle frame w)
+cycle-keeps frame n w k =
+    either (running (w .state))
+    (λ runs.
+    let held : w .state .held ≡ true = both-left (w .state .held) (started (w .state .registers)) runs in
+    let before : w .state .elapsed .0 < totalOf (w .state .taken) = before-total (w .state) (k .exists) held in
+    let long = written-length frame (w .state .taken) (suc (w .state .elapsed .0)) (w .ram) ∙ k .long in
+    split (suc (w .state .elapsed .0)) (totalOf (w .state .taken))
+    (λ on. rw (cycle-on frame w runs on) (record { exists = exists-moved _ _ (k .exists) held on; long = long }))
+    (λ last. rw (cycle-last frame w runs (omega arith)) (record { exists = exists-ended _ (k .exists); long = long })))
+    (λ idle. rw (rest frame w idle) k)
+
+pub ticks-keep : (frame : List ℕ) (n a : ℕ) (w : Ticking) → Kept n w → Kept n (ticks frame a w)
+ticks-keep frame n a w k = iter-keeps (cycle frame) (Kept n) (cycle-keeps frame n) a w k
+
+-- ---- ticks, one after the other, refusals too
+
+-- a tick after another: the outcome of the second, and the sum of the counts
+abbrev pub after : Outcome → Outcome → Outcome
+after p q = outcome (q .number) (p .value + q .value) (q .state) (q .ram) (q .store)
+
+abbrev pub again : Outcome → ℕ → Outcome
+again p b = tickMeans (p .state) (p .ram) (p .store) b
+
+pub tick-sum : (c : Controller) (ram store : List ℕ) (a b : ℕ) → tickMeans c ram store (a + b) ≡ after (tickMeans c ram store a) (again (tickMeans c ram store a) b)
+tick-sum c ram store a b =
+    either (cantExist c)
+    (λ h. rw (tick-state c ram store (a + b) h, tick-state c ram store a h, tick-state c ram store b h))
+    (λ e.
+    either (ramAllowed (length ram))
+    (λ r.
+    either (frameAllowed (length store))
+    (λ f.
+    let w = ticks store a (from c ram) in
+    let k : Kept (length ram) w = ticks-keep store (length ram) a (from c ram) (record { exists = e; long = refl }) in
+    rw (tick-done c ram store (a + b) e r f, tick-done c ram store a e r f, tick-done (w .state) (w .ram) store b (k .exists) (rw (k .long) r) f)
+    (ap (ticked store) (ticks-sum store a b c ram)))
+    (λ h. rw (tick-store c ram store (a + b) e r h, tick-store c ram store a e r h, tick-store c ram store b e r h)))
+    (λ h. rw (tick-ram c ram store (a + b) e h, tick-ram c ram store a e h, tick-ram c ram store b e h)))

@@ -1,0 +1,21 @@
+-- `controller::capture::put_nth` meets its contract: the shade of the pixel is put. Assumes nothing.
+use Prim.Native.Nat.{_+_, _/_, _%_}
+use native.Mathlib.Omega.{arith}
+use borrow.Author.Needs.{needs}
+use Rattle.sensor.proofs.Facts.{shade-small}
+use Rattle.controller.specs.Bulk.{putNth}
+use Rattle.controller.proofs.capture.put_nth.Statement.{statement}
+use Rattle.controller.proofs.capture.put_nth.Tie as tie
+
+put-pixel-requires : tie.Need-put-pixel-requires
+put-pixel-requires c κs =
+    let a = c .before .before .before .before .args in
+    omega (arith, c .before .shade-at .ensures, shade-small (a .store .now) (a .regs .now) (a .j % 128) (a .j / 128 + 8))
+
+returns : tie.Need-returns
+unfolding putNth
+returns c = cc
+
+pub put-nth-spec : {M : Type 1} → statement M
+put-nth-spec =
+    tie.close (tie.spec (λ c. search needs) (λ c κs. search needs) put-pixel-requires (λ c. search needs) returns)

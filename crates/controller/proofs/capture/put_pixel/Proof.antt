@@ -1,0 +1,33 @@
+-- `controller::capture::put_pixel` meets its contract: two bytes are read, and then two are stored. Assumes nothing.
+use native.Mathlib.Omega.{arith}
+use lib.ListN.{length-set}
+use borrow.Author.Needs.{needs}
+use Rattle.controller.specs.Tiles.{putAt}
+use Rattle.controller.proofs.capture.put_pixel.Statement.{statement}
+use Rattle.controller.proofs.capture.put_pixel.Tie as tie
+
+returns : tie.Need-returns
+unfolding putAt
+returns c = cc
+
+pub put-pixel-spec : {M : Type 1} → statement M
+put-pixel-spec =
+    tie.close
+    (tie.spec
+    (λ c. search needs)
+    (λ c. search needs)
+    (λ c. search needs)
+    (λ c. search needs)
+    (λ c. search needs)
+    (λ c. search needs)
+    (λ c. search needs)
+    (λ c. search needs)
+    (λ c. search needs)
+    (λ c. search needs)
+    (λ c κs. search needs)
+    (λ c. search needs)
+    (λ c κs. search needs)
+    (λ c. search needs)
+    (λ c. simp length-set (omega arith))
+    (λ c. search needs)
+    returns)

@@ -1,0 +1,21 @@
+-- `controller::capture::write_between` meets its contract: the range is what is done after, less what is done before. Assumes nothing.
+use borrow.Author.Needs.{needs}
+use Rattle.controller.specs.Bulk.{doneBy}
+use Rattle.controller.proofs.capture.write_between.Statement.{statement}
+use Rattle.controller.proofs.capture.write_between.Tie as tie
+
+returns : tie.Need-returns
+unfolding doneBy
+returns c = cc
+
+pub write-between-spec : {M : Type 1} → statement M
+write-between-spec =
+    tie.close
+    (tie.spec
+    (λ c κs. search needs)
+    (λ c κs. search needs)
+    (λ c κs. search needs)
+    (λ c κs. search needs)
+    (λ c κs. search needs)
+    (λ c. search needs)
+    returns)

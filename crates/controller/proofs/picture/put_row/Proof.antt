@@ -1,0 +1,29 @@
+-- `controller::picture::put_row` meets its contract: the eight pixels are two bytes. Assumes nothing.
+use Rattle.controller.proofs.Eight.{eight}
+use native.Mathlib.Omega.{arith}
+use lib.ListN.{length-set}
+use borrow.Author.Needs.{needs}
+use Rattle.controller.proofs.picture.put_row.Statement.{statement}
+use Rattle.controller.proofs.picture.put_row.Tie as tie
+
+returns : tie.Need-returns
+returns c =
+    let a = c .before .before .before .args in
+    cc (eight (a .store .now) (a .regs .now) (a .j) (a .ram .now) (omega arith) (omega arith) (omega arith) (λ i. omega (arith, c .before .before .slice-known .given i)))
+
+pub put-row-spec : {M : Type 1} → statement M
+put-row-spec =
+    tie.close
+    (tie.spec
+    (λ c κs. search needs)
+    (λ c. search needs)
+    (λ c. search needs)
+    (λ c. search needs)
+    (λ c. search needs)
+    (λ c. search needs)
+    (λ c. search needs)
+    (λ c. search needs)
+    (λ c. search needs)
+    (λ c. simp length-set (omega arith))
+    (λ c. search needs)
+    returns)

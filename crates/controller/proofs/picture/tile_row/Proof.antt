@@ -1,0 +1,71 @@
+-- `controller::picture::tile_row` meets its contract. The invariant: the bits of the first b pixels, packed. Assumes nothing.
+use mathlib.Core.Path.{_≡_, sym}
+use Prim.Native.Nat.{ℕ, _+_, _-_, _*_, _/_, _%_, _<_, _≤_}
+use native.Mathlib.Omega.{arith}
+use mathlib.Core.List.{List}
+use borrow.Author.Needs.{needs}
+use Rattle.controller.specs.Picture.{packed, pictureShade, lowByte, highByte}
+use Rattle.controller.proofs.Packed.{packed-none, packed-more, packed-room}
+use Rattle.controller.proofs.Pixels.{shade-small}
+use Rattle.controller.proofs.picture.tile_row.Statement.{statement}
+use Rattle.controller.proofs.picture.tile_row.Tie as tie
+
+-- the low bits and the high bits of the row
+abbrev lows : List ℕ → List ℕ → ℕ → ℕ → ℕ → ℕ
+lows frame regs t y b = pictureShade frame regs (8 * t + b) y % 2
+
+abbrev highs : List ℕ → List ℕ → ℕ → ℕ → ℕ → ℕ
+highs frame regs t y b = pictureShade frame regs (8 * t + b) y / 2
+
+abbrev Inv-loop : tie.InvT-loop
+Inv-loop frame set regs t y low₀ high₀ b₀ low high b =
+    (b ≤ 8) × (low ≡ packed (lows frame regs t y) b) × (high ≡ packed (highs frame regs t y) b)
+
+abbrev μ-loop : tie.MeasureT-loop
+μ-loop frame set regs t y low₀ high₀ b₀ low high b = 8 - b
+
+-- there is room for one bit more in each byte, and the shade has two
+room : (c : tie.After-shade-at Inv-loop μ-loop) → (c .before .before .loop .low < 128) × (c .before .before .loop .high < 128) × (c .shade-at .result < 4)
+room c =
+    let a = c .before .before .before .before .args in
+    let l = c .before .before .loop in
+    let s = shade-small (a .frame .now) (a .regs .now) in (
+      omega (arith, packed-room (lows (a .frame .now) (a .regs .now) (a .t) (a .y)) (λ b. omega arith) (l .b) (omega arith)),
+      omega (arith, packed-room (highs (a .frame .now) (a .regs .now) (a .t) (a .y)) (λ b. omega (arith, s (8 * a .t + b) (a .y + 8))) (l .b) (omega arith)),
+      omega (arith, s (8 * a .t + l .b) (a .y + 8)),
+    )
+
+loop-again : tie.Need-loop-again Inv-loop μ-loop
+loop-again c =
+    let a = c .before .before .before .before .args in
+    let b = c .before .before .loop .b in (
+      omega arith,
+      cc (packed-more (lows (a .frame .now) (a .regs .now) (a .t) (a .y)) b),
+      cc (packed-more (highs (a .frame .now) (a .regs .now) (a .t) (a .y)) b),
+    )
+
+returns : tie.Need-returns Inv-loop μ-loop
+unfolding lowByte highByte
+returns c =
+    let e : c .before .loop .b ≡ 8 = omega arith in
+    (cc, cc)
+
+pub tile-row-spec : {M : Type 1} → statement M
+tile-row-spec =
+    tie.close
+    (tie.spec
+    Inv-loop
+    μ-loop
+    (λ c. (omega arith, sym (packed-none _), sym (packed-none _)))
+    (λ c. omega arith)
+    (λ c. omega arith)
+    (λ c. omega arith)
+    (λ c κs. search needs)
+    (λ c. omega (arith, room c))
+    (λ c. omega (arith, room c))
+    (λ c. omega (arith, room c))
+    (λ c. omega (arith, room c))
+    (λ c. omega arith)
+    (λ c. omega arith)
+    loop-again
+    returns)

@@ -1,0 +1,100 @@
+-- Starting, stopping, ending: a capture, cycle by cycle. Assumes nothing.
+use mathlib.Core.Bool.{Bool, true, false, _&&_}
+use mathlib.Core.List.{List}
+use Prim.Native.Nat.{ℕ, _+_, _-_, _*_, _/_, _%_}
+use lib.Dec.{eqb, leb, ltb}
+use lib.ListN.{getD, set}
+use Rattle.laws.specs.Pick.{pick}
+use Rattle.laws.specs.Iter.{iter}
+use Rattle.sensor.specs.Shade.{shadeAt}
+use Rattle.controller.specs.declared.Controller.{Controller}
+use Rattle.controller.specs.Timing.{totalOf, rowsRead, firstRow, due, candidate}
+use Rattle.controller.specs.State.{started, noRegisters}
+use Rattle.controller.specs.Tiles.{putAt}
+
+-- the sensor row of pixel k
+abbrev pub rowOf : List ℕ → ℕ → ℕ
+rowOf regs k = firstRow regs + k / 128
+
+-- Picture row y is sensor row y + 8, y from 0 to 111; other rows write nothing
+unfoldable pub putPixel : List ℕ → List ℕ → ℕ → List ℕ → List ℕ
+putPixel frame regs k ram =
+    pick (leb 8 (rowOf regs k) && ltb (rowOf regs k) 120)
+    (putAt ram (k % 128) (rowOf regs k - 8) (shadeAt frame regs (k % 128) (rowOf regs k)))
+    ram
+
+-- what cycle number e of a capture writes: pixel k where it is due, with k running over the rows that are read
+unfoldable pub writtenAt : List ℕ → List ℕ → ℕ → List ℕ → List ℕ
+writtenAt frame regs e ram =
+    pick (due regs (candidate regs e) e && ltb (candidate regs e) (128 * rowsRead regs))
+    (putPixel frame regs (candidate regs e) ram)
+    ram
+
+-- A start: registers 1 to 53 and the new register 0 are taken; elapsed is 0
+unfoldable pub begun : Controller → ℕ → Controller
+begun c v = record {
+  enabled = c .enabled;
+  bank = c .bank;
+  select = c .select;
+  registers = set (c .registers) 0 v;
+  held = true;
+  taken = set (c .registers) 0 v;
+  elapsed = record { 0 = 0 };
+}
+
+-- the state at a number of elapsed cycles
+unfoldable pub moved : Controller → ℕ → Controller
+moved c e = record {
+  enabled = c .enabled;
+  bank = c .bank;
+  select = c .select;
+  registers = c .registers;
+  held = c .held;
+  taken = c .taken;
+  elapsed = record { 0 = e };
+}
+
+-- At its total, register 0 bit 0 clears (bits 1 and 2 stay), the capture is no longer held, and elapsed and taken registers become 0
+unfoldable pub ended : Controller → Controller
+ended c = record {
+  enabled = c .enabled;
+  bank = c .bank;
+  select = c .select;
+  registers = set (c .registers) 0 (getD (c .registers) 0 0 / 2 * 2);
+  held = false;
+  taken = noRegisters;
+  elapsed = record { 0 = 0 };
+}
+
+-- the state, the RAM, and how many cycles fell while a capture was running
+pub record Ticking : Type 0 where
+  pub state : Controller
+  pub ram : List ℕ
+  pub ran : ℕ
+
+-- A capture is running while it is held and register 0 has bit 0 set
+abbrev pub running : Controller → Bool
+running c = c .held && started (c .registers)
+
+-- each such cycle adds one to elapsed, and its pixel is written, RAM writing enabled or not
+unfoldable pub runs : List ℕ → Ticking → Ticking
+runs frame w = record {
+  state =
+      pick (eqb (w .state .elapsed .0 + 1) (totalOf (w .state .taken)))
+      (ended (w .state))
+      (moved (w .state) (w .state .elapsed .0 + 1));
+  ram = writtenAt frame (w .state .taken) (w .state .elapsed .0 + 1) (w .ram);
+  ran = w .ran + 1;
+}
+
+-- other cycles change nothing
+unfoldable pub cycle : List ℕ → Ticking → Ticking
+cycle frame w = pick (running (w .state)) (runs frame w) w
+
+-- A tick of n is n ticks of one cycle
+abbrev pub ticks : List ℕ → ℕ → Ticking → Ticking
+ticks frame n w = iter (cycle frame) n w
+
+-- as a tick begins, none of its cycles has run
+abbrev pub from : Controller → List ℕ → Ticking
+from c ram = record { state = c; ram = ram; ran = 0 }

@@ -1,0 +1,13 @@
+-- The meaning of the controller, in the paper's order.
+pub mod Lent
+pub mod Timing
+pub mod State
+pub mod Outcome
+pub mod Tiles
+pub mod Capture
+pub mod Bus
+pub mod Calls
+pub mod Table
+pub mod Picture
+pub mod Bulk
+pub mod Inspect

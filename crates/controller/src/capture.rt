@@ -1,0 +1,220 @@
+// Captures: which of the picture's pixels fall into a tick, where each one stands in the RAM, and what a tick does.
+use super::Clocks;
+use super::Controller;
+use super::Cycles;
+use super::Refusal;
+use super::TickAnswer;
+use super::TickDone;
+use super::state::exposure;
+use super::state::ram_allowed;
+use super::state::total;
+use sensor::Setting;
+ghost use mathlib.Core.Path.{_≡_};
+ghost use mathlib.Core.Bool.{Bool, true, false};
+ghost use mathlib.Core.List.{List};
+ghost use Prim.Native.Nat.{ℕ, _+_, _-_, _*_, _/_, _%_, _<_, _≤_, min};
+ghost use lib.ListN.{length, getD};
+ghost use Rattle.laws.specs.Bits.{putBit};
+ghost use Rattle.sensor.specs.Taken.{settingOf};
+ghost use Rattle.controller.specs.Timing.{clocks, totalOf};
+ghost use Rattle.controller.specs.Tiles.{putAt};
+ghost use Rattle.controller.specs.Bulk.{putNth, pixels, pictureFrom, doneBy};
+ghost use Rattle.controller.specs.Capture.{moved, ended, running, ticks, from};
+ghost use Rattle.controller.specs.Outcome.{outcome, tickOutcome};
+ghost use Rattle.controller.specs.Calls.{refusal, ticked, tickMeans};
+
+impl Cycles {
+    // Two cycles make one clock: the only place where cycles become clocks.
+    pub fn clocks(self) -> Clocks
+        ensures { λ r. ⌜ r .0 ≡ clocks (self .0) ⌝ }
+    {
+        Clocks(self.0 / 2)
+    }
+}
+
+// The clock after which the picture's pixels begin: row 8 of the sensor, the seventh or the eighth after the first that is read.
+fn picture_from(regs: &[u8; 54]) -> Clocks
+    ensures { λ r. ⌜ (r .0 ≡ pictureFrom (now (regs .entry))) × (r .0 < 1000000) ⌝ }
+{
+    let reading = Controller::READING + 8 * exposure(regs);
+    if regs[1] / 128 % 2 == 1 {
+        return Clocks(reading + 7 * 128);
+    }
+    Clocks(reading + 8 * 128)
+}
+
+// How many of the picture's pixels are done after so many cycles, where they begin after clock `first`.
+fn done_by(first: Clocks, elapsed: Cycles) -> usize
+    ensures { λ r. ⌜ (r ≡ min (clocks (elapsed .0) - first .0) 14336) × (r ≤ 14336) ⌝ }
+{
+    let now = elapsed.clocks();
+    if now.0 < first.0 {
+        return 0;
+    }
+    let done = (now.0 - first.0) as usize;
+    if done < Controller::PIXELS {
+        return done;
+    }
+    Controller::PIXELS
+}
+
+// `b` with its bit `bit` set to `v`.
+fn put_bit(b: u8, bit: u8, v: u8) -> u8
+    requires { ⌜ (bit < 8) × (v < 2) ⌝ }
+    ensures { λ r. ⌜ r ≡ putBit b bit v ⌝ }
+{
+    let w = 1u8 << bit;
+    (b & !w) | (v << bit)
+}
+
+// Puts a pixel of the picture: the shade's low bit in one byte, its high bit in the next.
+fn put_pixel(ram: &mut [u8], x: usize, y: usize, shade: u8)
+    requires { ⌜ (x < 128) × (y < 112) × (shade < 4) × (8192 ≤ length (now ram)) ⌝ }
+    ensures { λ _. ⌜ now (ram .exit) ≡ putAt (now (ram .entry)) x y shade ⌝ }
+{
+    let low = Controller::PICTURE + 16 * (16 * (y / 8) + x / 8) + 2 * (y % 8);
+    let high = low + 1;
+    let bit = (7 - x % 8) as u8;
+    let a = put_bit(ram[low], bit, shade % 2);
+    let b = put_bit(ram[high], bit, shade / 2);
+    ram[low] = a;
+    ram[high] = b;
+}
+
+// Puts pixel j of the picture, row by row: picture row y is sensor row y + 8.
+fn put_nth(ram: &mut [u8], store: &[u8], set: Setting, regs: &[u8; 54], j: usize)
+    requires { ⌜ (j < 14336) × (8192 ≤ length (now ram)) × (length (now store) ≡ 16384) × (set ≡ settingOf (now regs)) ⌝ }
+    ensures { λ _. ⌜ now (ram .exit) ≡ putNth (now (store .entry)) (now (regs .entry)) j (now (ram .entry)) ⌝ }
+{
+    let x = j % 128;
+    let y = j / 128;
+    let shade = sensor::shade_at(store, set, regs, x, y + 8);
+    put_pixel(ram, x, y, shade);
+}
+
+// Puts the pixels from..to of the picture, in order.
+fn put_pixels(ram: &mut [u8], store: &[u8], set: Setting, regs: &[u8; 54], from: usize, to: usize)
+    requires { ⌜ (from ≤ to) × (to ≤ 14336) × (8192 ≤ length (now ram)) × (length (now store) ≡ 16384) × (set ≡ settingOf (now regs)) ⌝ }
+    ensures { λ _. ⌜ now (ram .exit) ≡ pixels (now (store .entry)) (now (regs .entry)) from to (now (ram .entry)) ⌝ }
+{
+    let mut j = from;
+    while j < to {
+        put_nth(ram, store, set, regs, j);
+        j += 1;
+    }
+}
+
+// Writes what falls between two numbers of elapsed cycles of a capture.
+fn write_between(ram: &mut [u8], store: &[u8], regs: &[u8; 54], elapsed: Cycles, then: Cycles)
+    requires { ⌜ (elapsed .0 ≤ then .0) × (8192 ≤ length (now ram)) × (length (now store) ≡ 16384) ⌝ }
+    ensures { λ _. ⌜ now (ram .exit) ≡ pixels (now (store .entry)) (now (regs .entry)) (doneBy (now (regs .entry)) (elapsed .0)) (doneBy (now (regs .entry)) (then .0)) (now (ram .entry)) ⌝ }
+{
+    let first = picture_from(regs);
+    let from = done_by(first, elapsed);
+    let to = done_by(first, then);
+    put_pixels(ram, store, Setting::of(regs), regs, from, to);
+}
+
+// A byte with its bit 0 clear.
+fn even(b: u8) -> u8
+    ensures { λ r. ⌜ r ≡ b / 2 * 2 ⌝ }
+{
+    b / 2 * 2
+}
+
+impl Controller {
+    // Clocks before reading begins, at exposure 0.
+    pub const READING: u32 = 92;
+    // The picture's pixels, 112 rows of 128.
+    pub const PIXELS: usize = 14336;
+
+    // The state at a number of elapsed cycles.
+    fn moved_to(mut self, elapsed: Cycles) -> Controller
+        ensures { λ r. ⌜ r ≡ moved self (elapsed .0) ⌝ }
+    {
+        self.elapsed = elapsed;
+        self
+    }
+
+    // The state as its capture ends: register 0 bit 0 clears, nothing is held or taken.
+    fn at_end(mut self) -> Controller
+        ensures { λ r. ⌜ r ≡ ended self ⌝ }
+    {
+        let first = even(self.registers[0]);
+        self.registers[0] = first;
+        self.held = false;
+        let none = [0u8; 54];
+        self.taken = none;
+        let start = Cycles(0);
+        self.elapsed = start;
+        self
+    }
+
+    // Whether a capture is running: it is held and register 0 has bit 0 set.
+    fn is_running(self) -> bool
+        ensures { λ r. ⌜ r ≡ running self ⌝ }
+    {
+        if !self.held {
+            return false;
+        }
+        self.registers[0] % 2 == 1
+    }
+
+    // The answer to a tick of which n cycles fell while a capture was running.
+    fn ran(self, n: u32) -> TickDone
+        ensures { λ r. ⌜ ((ram store : List ℕ) → tickOutcome r ram store ≡ outcome 0 n self ram store) ⌝ }
+    {
+        TickDone {
+            state: self,
+            answer: TickAnswer::Ran(Cycles(n)),
+        }
+    }
+
+    // The answer to a tick that is refused: the state given.
+    fn refuse_tick(self, why: Refusal) -> TickDone
+        ensures { λ r. ⌜ ((ram store : List ℕ) → tickOutcome r ram store ≡ refusal why self ram store) ⌝ }
+    {
+        TickDone {
+            state: self,
+            answer: TickAnswer::Refused(why),
+        }
+    }
+
+    // n cycles of a running capture.
+    fn run(self, ram: &mut [u8], store: &[u8], n: u32) -> TickDone
+        requires { ⌜ (running self ≡ true) × (self .elapsed .0 < totalOf (self .taken)) × (8192 ≤ length (now ram)) × (length (now store) ≡ 16384) ⌝ }
+        ensures { λ r. ⌜ tickOutcome r (now (ram .exit)) (now (store .entry)) ≡ ticked (now (store .entry)) (ticks (now (store .entry)) n (from self (now (ram .entry)))) ⌝ }
+    {
+        let taken = self.taken;
+        let elapsed = self.elapsed;
+        let all = total(&taken);
+        let left = all.0 - elapsed.0;
+        if n < left {
+            let then = Cycles(elapsed.0 + n);
+            write_between(ram, store, &taken, elapsed, then);
+            return self.moved_to(then).ran(n);
+        }
+        write_between(ram, store, &taken, elapsed, all);
+        self.at_end().ran(left)
+    }
+
+    // A tick of n cycles: lent RAM and frame store. It answers how many of them fell while a capture was running.
+    pub fn tick(self, ram: &mut [u8], store: &[u8], n: u32) -> TickDone
+        ensures { λ r. ⌜ tickOutcome r (now (ram .exit)) (now (store .entry)) ≡ tickMeans self (now (ram .entry)) (now (store .entry)) n ⌝ }
+    {
+        if !self.exists() {
+            return self.refuse_tick(Refusal::State);
+        }
+        if !ram_allowed(ram.len()) {
+            return self.refuse_tick(Refusal::Ram);
+        }
+        if store.len() != Controller::FRAME {
+            return self.refuse_tick(Refusal::Frame);
+        }
+        // Cycles while no capture is running change nothing.
+        if !self.is_running() {
+            return self.ran(0);
+        }
+        self.run(ram, store, n)
+    }
+}

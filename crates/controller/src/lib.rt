@@ -1,0 +1,71 @@
+// The controller of the camera cartridge: the state record, refusals and answers. The modules follow the paper's headings:
+// state (which records can exist, sizes lent), bus (read and write), capture (ticks), picture (afresh and whole), inspect.
+pub mod bus;
+pub mod capture;
+pub mod inspect;
+pub mod picture;
+pub mod state;
+
+// Cartridge cycles (PHI), and sensor clocks: two cycles make one clock.
+pub struct Cycles(pub u32);
+
+pub struct Clocks(pub u32);
+
+// The state record.
+pub struct Controller {
+    pub enabled: bool,
+    pub bank: u8,
+    pub select: u8,
+    pub registers: [u8; 54],
+    pub held: bool,
+    pub taken: [u8; 54],
+    pub elapsed: Cycles,
+}
+
+// Refusals, by what can't exist or is not allowed.
+pub enum Refusal {
+    State,
+    Rom,
+    Ram,
+    Frame,
+    Address,
+    Line,
+}
+
+pub enum ReadAnswer {
+    Byte(u8),
+    Refused(Refusal),
+}
+
+pub enum WriteAnswer {
+    Done,
+    Refused(Refusal),
+}
+
+pub enum TickAnswer {
+    Ran(Cycles),
+    Refused(Refusal),
+}
+
+// An element of the matrix, by its row and column.
+pub enum Element {
+    At(u8, u8),
+    Level,
+    Refused(Refusal),
+}
+
+// The state handed back, and the answer.
+pub struct ReadDone {
+    pub state: Controller,
+    pub answer: ReadAnswer,
+}
+
+pub struct WriteDone {
+    pub state: Controller,
+    pub answer: WriteAnswer,
+}
+
+pub struct TickDone {
+    pub state: Controller,
+    pub answer: TickAnswer,
+}

@@ -1,0 +1,165 @@
+-- The ranges that the definitions keep. Assumes nothing.
+use mathlib.Core.Bool.{Bool, true, false}
+use mathlib.Core.List.{List}
+use mathlib.Core.Path.{_≡_, refl, ap, _∙_}
+use Prim.Native.Nat.{ℕ, zero, suc, _+_, _-_, _*_, _/_, _%_, _≤_, _<_, min}
+use native.Mathlib.Nat.{le-trans}
+use native.Mathlib.Omega.{arith}
+use borrow.Author.Tests.{ltb-false, ne-eqb}
+use lib.IntN.{ℤ, pos, negsuc, natAbs, _+ℤ_, _-ℤ_}
+use lib.ListN.{getD}
+use lib.Signed.{mag, nonNeg, pos-natAbs}
+use lib.Dec.{T, eqb, ltb, lit<, lit≤}
+use Rattle.laws.specs.Pick.{pick}
+use Rattle.laws.proofs.Order.{split}
+use Rattle.laws.proofs.Pick.{pick-ind, never}
+use Rattle.laws.proofs.Signed.{sub-ind, abs-mag}
+use Rattle.sensor.specs.declared.Setting.{Setting}
+use Rattle.sensor.specs.Taken.{exposureOf, alphas, quartersOf, settingOf, Sane}
+use Rattle.sensor.specs.Light.{exposed, turned, lightOf, litOf}
+use Rattle.sensor.specs.Edge.{held, heldHigh, nine, Small, mode2, mode3, modeC, modeD, modeE, modeF, edgeOf, isPlain, signedAt, threeOf, nineOf, step4}
+use Rattle.sensor.specs.Row.{passes, rowFilter, step5}
+use Rattle.sensor.specs.Shade.{valueAt, element, shadeOf, shadeAt}
+
+-- ---- what is held
+
+pub held-small : (v : ℤ) → mag (held v) < 128
+unfolding held
+held-small (pos n) = pick-ind (λ z. mag z < 128) (ltb 127 n) (λ e. lit< tt) (λ e. omega (arith, ltb-false 127 n e))
+held-small (negsuc n) = pick-ind (λ z. mag z < 128) (ltb 127 n) (λ e. lit< tt) (λ e. omega (arith, ltb-false 127 n e))
+
+pub high-size : (v : ℤ) → natAbs (heldHigh v) ≤ 255
+unfolding heldHigh
+high-size (pos n) =
+    pick-ind (λ z. natAbs z ≤ 255) (ltb n 0) (λ e. lit≤ tt) (λ e. pick-ind (λ z. natAbs z ≤ 255) (ltb 255 n) (λ f. lit≤ tt) (λ f. ltb-false 255 n f))
+high-size (negsuc n) = lit≤ tt
+
+-- ---- the light
+
+-- the light of any byte is a byte
+pub light-small : (set : Setting) (v : ℕ) → lightOf set v < 256
+unfolding lightOf turned exposed
+light-small set v = pick-ind (λ n. n < 256) (set .inverted) (λ e. omega arith) (λ e. omega arith)
+
+pub lit-small : (frame : List ℕ) (set : Setting) (x row : ℕ) → litOf frame set x row < 256
+unfolding litOf
+lit-small frame set x row = light-small set _
+
+-- ---- what the registers ask
+
+quarters-small : (k : ℕ) → getD alphas k 0 ≤ 20
+quarters-small zero = lit≤ tt
+quarters-small (suc zero) = lit≤ tt
+quarters-small (suc (suc zero)) = lit≤ tt
+quarters-small (suc (suc (suc zero))) = lit≤ tt
+quarters-small (suc (suc (suc (suc zero)))) = lit≤ tt
+quarters-small (suc (suc (suc (suc (suc zero))))) = lit≤ tt
+quarters-small (suc (suc (suc (suc (suc (suc zero)))))) = lit≤ tt
+quarters-small (suc (suc (suc (suc (suc (suc (suc zero))))))) = lit≤ tt
+quarters-small (suc (suc (suc (suc (suc (suc (suc (suc k)))))))) = lit≤ tt
+
+-- an exposure below 65,536 is all that is wanted of the registers
+pub exposure-sane : (regs : List ℕ) → exposureOf regs < 65536 → Sane (settingOf regs)
+unfolding settingOf quartersOf
+exposure-sane regs h = record { exposure = h; quarters = quarters-small (getD regs 4 0 / 16 % 8) }
+
+-- registers that are bytes have it
+pub setting-sane : (regs : List ℕ) → ((k : ℕ) → getD regs k 0 < 256) → Sane (settingOf regs)
+unfolding exposureOf
+setting-sane regs bytes = exposure-sane regs (omega (arith, bytes 2, bytes 3))
+
+-- ---- the nine values and step 4
+
+-- a byte less 128 lies in −128..127, and what lies there, with 128 added, is a byte
+pub centred : (n : ℕ) → n < 256 → mag (pos n -ℤ pos 128) < 128
+centred n h = sub-ind n 128 (λ z. mag z < 128) (λ k. omega arith) (λ k. omega arith)
+
+pub raised : (z : ℤ) → mag z < 128 → T (nonNeg (z +ℤ pos 128)) × (natAbs (z +ℤ pos 128) < 256)
+raised (pos n) h = (tt, omega arith)
+raised (negsuc n) h = sub-ind 128 (suc n) (λ z. T (nonNeg z) × (natAbs z < 256)) (λ k. absurd (omega arith)) (λ k. (tt, omega arith))
+
+-- modes 0 and 4 to B are P as it is
+pub edge-plain : (mode q : ℕ) (n : List (List ℤ)) → isPlain mode ≡ true → edgeOf mode q n ≡ nine n 1 1
+unfolding edgeOf
+edge-plain mode q n h = simp (no 0x1 refl, no 0x2 refl, no 0x3 refl, no 0xC refl, no 0xD refl, no 0xE refl, no 0xF refl)
+  where
+    no : (k : ℕ) → isPlain k ≡ false → eqb mode k ≡ false
+    no k f = ne-eqb mode k (λ e. never h (ap isPlain e ∙ f))
+
+-- a mode that is not 2 lies in −128..127, which is what step 5 hands on unheld
+module _ (n : List (List ℤ)) (s : Small n) (mode q : ℕ) where
+  -- what each of the modes has, the value has
+  each : (P : ℤ → Type 0) → P (pos 0) → (eqb mode 2 ≡ true → P (mode2 q n)) → ((v : ℤ) → P (held v)) → P (nine n 1 1) → P (edgeOf mode q n)
+  unfolding edgeOf mode3 modeC modeD modeE modeF
+  each P zeroed two holds p =
+      pick-ind P (eqb mode 0x1) (λ e. zeroed) (λ e.
+      pick-ind P (eqb mode 0x2) two (λ e.
+      pick-ind P (eqb mode 0x3) (λ e. holds _) (λ e.
+      pick-ind P (eqb mode 0xC) (λ e. holds _) (λ e.
+      pick-ind P (eqb mode 0xD) (λ e. holds _) (λ e.
+      pick-ind P (eqb mode 0xE) (λ e. holds _) (λ e.
+      pick-ind P (eqb mode 0xF) (λ e. holds _) (λ e. p)))))))
+
+  pub edge-small : eqb mode 2 ≡ false → mag (edgeOf mode q n) < 128
+  edge-small f = each (λ z. mag z < 128) (lit< tt) (λ t. absurd (never t f)) held-small (s 1 1)
+
+  -- and mode 2 in 0..255
+  pub edge-size : natAbs (edgeOf mode q n) ≤ 255
+  unfolding mode2
+  edge-size = each (λ z. natAbs z ≤ 255) (lit≤ tt) (λ t. high-size _) (λ v. le-trans (abs-mag (held v) (held-small v)) (lit≤ tt)) (le-trans (abs-mag (nine n 1 1) (s 1 1)) (lit≤ tt))
+
+-- a mode that does not pass the 1-D filter is not mode 2
+not-two : (mode : ℕ) → passes mode ≡ false → eqb mode 2 ≡ false
+unfolding passes
+not-two mode h = ne-eqb mode 2 (λ e. never (ap passes e) h)
+
+-- ---- the nine values of lit values that are bytes
+module _ (lit : ℕ → ℕ → ℕ) (bytes : (x row : ℕ) → lit x row < 256) where
+  signed-small : (x row : ℕ) → mag (signedAt lit x row) < 128
+  unfolding signedAt
+  signed-small x row = centred _ (bytes x row)
+
+  three-small : (x row j : ℕ) → mag (getD (threeOf lit x row) j (pos 0)) < 128
+  unfolding threeOf
+  three-small x row zero = signed-small _ _
+  three-small x row (suc zero) = signed-small _ _
+  three-small x row (suc (suc zero)) = signed-small _ _
+  three-small x row (suc (suc (suc j))) = lit< tt
+
+  pub nine-small : (x row : ℕ) → Small (nineOf lit x row)
+  unfolding nineOf
+  nine-small x row zero j = three-small x _ j
+  nine-small x row (suc zero) j = three-small x _ j
+  nine-small x row (suc (suc zero)) j = three-small x _ j
+  nine-small x row (suc (suc (suc i))) j = lit< tt
+
+  module _ (set : Setting) (x row : ℕ) where
+    pub step4-size : natAbs (step4 lit set x row) ≤ 255
+    unfolding step4
+    step4-size = edge-size (nineOf lit x row) (nine-small x row) (set .mode) (set .quarters)
+
+    pub step5-small : mag (step5 lit set x row) < 128
+    unfolding step5 rowFilter step4
+    step5-small =
+        pick-ind (λ z. mag z < 128) (passes (set .mode)) (λ e. held-small _)
+        (λ e. edge-small (nineOf lit x row) (nine-small x row) (set .mode) (set .quarters) (not-two (set .mode) e))
+
+    -- a value is the step 5 value with 128 added: nothing is lost
+    pub value-exact : pos (valueAt lit set x row) ≡ step5 lit set x row +ℤ pos 128
+    unfolding valueAt
+    value-exact = pos-natAbs _ (raised (step5 lit set x row) step5-small .0)
+
+-- ---- the shade
+
+four : (a b c : Bool) → pick {X = ℕ} a 3 (pick b 2 (pick c 1 0)) < 4
+four true b c = lit< tt
+four false true c = lit< tt
+four false false true = lit< tt
+four false false false = lit< tt
+
+pub shade-small : (frame regs : List ℕ) (x row : ℕ) → shadeAt frame regs x row < 4
+unfolding shadeAt shadeOf
+shade-small frame regs x row =
+    let v = valueAt (litOf frame (settingOf regs)) (settingOf regs) x row in
+    let e = element x row in
+    four (ltb v (getD regs e 0)) (ltb v (getD regs (e + 1) 0)) (ltb v (getD regs (e + 2) 0))

@@ -1,0 +1,26 @@
+-- `sensor::hold` meets its contract: each test is the definition's, of the number read back from v's bits, which is v.
+-- Assumes nothing.
+use mir.Syntax.{w32}
+use mir.Facts.{toZ-ofZ}
+use Rattle.sensor.specs.Edge.{held}
+use Rattle.sensor.proofs.hold.Statement.{statement}
+use Rattle.sensor.proofs.hold.Tie as tie
+
+returns : tie.Need-returns
+unfolding held
+returns c = simp (rw (toZ-ofZ {w = w32} (c .before .fits .v)) at (c .if1 .taken))
+
+returns-2 : tie.Need-returns-2
+unfolding held
+returns-2 c =
+    let e = toZ-ofZ {w = w32} (c .before .before .fits .v) in
+    simp (rw e at (c .before .if1 .left), rw e at (c .if2 .taken))
+
+returns-3 : tie.Need-returns-3
+unfolding held
+returns-3 c =
+    let e = toZ-ofZ {w = w32} (c .before .before .fits .v) in
+    simp (e, rw e at (c .before .if1 .left), rw e at (c .if2 .left))
+
+pub hold-spec : {M : Type 1} → statement M
+hold-spec = tie.close (tie.spec returns returns-2 returns-3)

@@ -1,0 +1,28 @@
+-- `sensor::mode_3` meets its contract, from what its callees ensure: the sum is of a size that the next step takes. Assumes nothing.
+use borrow.Author.Needs.{needs}
+use mathlib.Core.Path.{ap, _∙_}
+use mir.Syntax.{w32}
+use Rattle.laws.proofs.Signed.{got}
+use Rattle.sensor.specs.Edge.{held, extracted, mode3}
+use Rattle.sensor.proofs.Sums.{across-size}
+use Rattle.sensor.proofs.mode_3.Statement.{statement}
+use Rattle.sensor.proofs.mode_3.Tie as tie
+
+returns : tie.Need-returns
+unfolding mode3
+returns c =
+    let e = c .before in
+    let d = e .before in
+    let b = d .before in
+    let sum = got w32 (d .across .ok) (d .across .ensures) in
+    let cut = got w32 (e .extract .ok) (e .extract .ensures ∙ ap (extracted (b .args .quarters)) sum) in
+    got w32 (c .hold .ok) (c .hold .ensures ∙ ap held cut)
+
+pub mode-3-spec : {M : Type 1} → statement M
+mode-3-spec =
+    tie.close
+    (tie.spec
+    (λ c κs. search needs)
+    (λ c κs. (c .before .pre .0, rw (got w32 (c .across .ok) (c .across .ensures)) (across-size (c .before .args .n) (c .before .pre .1))))
+    (λ c κs. search needs)
+    returns)

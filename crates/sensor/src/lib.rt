@@ -1,0 +1,656 @@
+// From light to shade, steps 1 to 6: one pixel's value and shade from a frame and the registers taken.
+ghost use mathlib.Core.Path.{_≡_};
+ghost use mathlib.Core.List.{List};
+ghost use Prim.Native.Nat.{ℕ, _+_, _-_, _/_, _%_, _<_, _≤_, min};
+ghost use lib.IntN.{natAbs};
+ghost use lib.ListN.{length, getD};
+ghost use Rattle.sensor.specs.Taken.{exposureOf, alphas, settingOf, Sane};
+ghost use Rattle.sensor.specs.Light.{Inside, adapted, exposed, turned, lightOf, litOf};
+ghost use Rattle.sensor.specs.Edge.{held, heldHigh, Small, acrossOf, uprightOf, aroundOf, enhanced, extracted, mode2, mode3, modeC, modeD, modeE, modeF, edgeOf, isPlain, leftOf, rightOf, aboveOf, belowOf, signedAt, threeOf, nineOf, step4};
+ghost use Rattle.sensor.specs.Row.{passes, step5};
+ghost use Rattle.sensor.specs.Shade.{valueAt, shadeOf, shadeAt};
+
+// What the registers taken ask of every pixel, worked out once.
+pub struct Setting {
+    pub exposure: u32,
+    pub inverted: bool,
+    pub mode: u8,
+    pub quarters: u8,
+    pub kind: u8,
+}
+
+// Step 1: 128 + (v - 128) * 5 / 8 for every byte v.
+const LIGHT: [u8; 256] = [
+    48,
+    49,
+    50,
+    50,
+    51,
+    52,
+    52,
+    53,
+    53,
+    54,
+    55,
+    55,
+    56,
+    57,
+    57,
+    58,
+    58,
+    59,
+    60,
+    60,
+    61,
+    62,
+    62,
+    63,
+    63,
+    64,
+    65,
+    65,
+    66,
+    67,
+    67,
+    68,
+    68,
+    69,
+    70,
+    70,
+    71,
+    72,
+    72,
+    73,
+    73,
+    74,
+    75,
+    75,
+    76,
+    77,
+    77,
+    78,
+    78,
+    79,
+    80,
+    80,
+    81,
+    82,
+    82,
+    83,
+    83,
+    84,
+    85,
+    85,
+    86,
+    87,
+    87,
+    88,
+    88,
+    89,
+    90,
+    90,
+    91,
+    92,
+    92,
+    93,
+    93,
+    94,
+    95,
+    95,
+    96,
+    97,
+    97,
+    98,
+    98,
+    99,
+    100,
+    100,
+    101,
+    102,
+    102,
+    103,
+    103,
+    104,
+    105,
+    105,
+    106,
+    107,
+    107,
+    108,
+    108,
+    109,
+    110,
+    110,
+    111,
+    112,
+    112,
+    113,
+    113,
+    114,
+    115,
+    115,
+    116,
+    117,
+    117,
+    118,
+    118,
+    119,
+    120,
+    120,
+    121,
+    122,
+    122,
+    123,
+    123,
+    124,
+    125,
+    125,
+    126,
+    127,
+    127,
+    128,
+    128,
+    128,
+    129,
+    129,
+    130,
+    131,
+    131,
+    132,
+    133,
+    133,
+    134,
+    134,
+    135,
+    136,
+    136,
+    137,
+    138,
+    138,
+    139,
+    139,
+    140,
+    141,
+    141,
+    142,
+    143,
+    143,
+    144,
+    144,
+    145,
+    146,
+    146,
+    147,
+    148,
+    148,
+    149,
+    149,
+    150,
+    151,
+    151,
+    152,
+    153,
+    153,
+    154,
+    154,
+    155,
+    156,
+    156,
+    157,
+    158,
+    158,
+    159,
+    159,
+    160,
+    161,
+    161,
+    162,
+    163,
+    163,
+    164,
+    164,
+    165,
+    166,
+    166,
+    167,
+    168,
+    168,
+    169,
+    169,
+    170,
+    171,
+    171,
+    172,
+    173,
+    173,
+    174,
+    174,
+    175,
+    176,
+    176,
+    177,
+    178,
+    178,
+    179,
+    179,
+    180,
+    181,
+    181,
+    182,
+    183,
+    183,
+    184,
+    184,
+    185,
+    186,
+    186,
+    187,
+    188,
+    188,
+    189,
+    189,
+    190,
+    191,
+    191,
+    192,
+    193,
+    193,
+    194,
+    194,
+    195,
+    196,
+    196,
+    197,
+    198,
+    198,
+    199,
+    199,
+    200,
+    201,
+    201,
+    202,
+    203,
+    203,
+    204,
+    204,
+    205,
+    206,
+    206,
+    207,
+];
+
+// α in quarters, by bits 6-4 of A004.
+const ALPHAS: [u8; 8] = [2, 3, 4, 5, 8, 12, 16, 20];
+
+// A byte as a wider number, with its bound.
+fn wide(x: u8) -> u32
+    ensures { λ r. ⌜ (r ≡ x) × (r < 256) ⌝ }
+{
+    x as u32
+}
+
+// α in quarters of the byte of A004.
+fn quarters_of(byte: u8) -> u8
+    ensures { λ r. ⌜ r ≡ getD alphas (byte / 16 % 8) 0 ⌝ }
+{
+    ALPHAS[(byte / 16 % 8) as usize]
+}
+
+// The exposure of the registers, with the bound that two bytes have.
+fn exposure_of(regs: &[u8; 54]) -> u32
+    ensures { λ r. ⌜ (r ≡ exposureOf (now (regs .entry))) × (r < 65536) ⌝ }
+{
+    wide(regs[2]) * 256 + wide(regs[3])
+}
+
+impl Setting {
+    // What 54 registers ask.
+    pub fn of(regs: &[u8; 54]) -> Setting
+        ensures { λ r. ⌜ r ≡ settingOf (now (regs .entry)) ⌝ }
+    {
+        Setting {
+            exposure: exposure_of(regs),
+            inverted: regs[4] / 8 % 2 == 1,
+            mode: 8 * (regs[1] / 128 % 2) + 2 * (regs[1] / 32 % 4) + regs[4] / 128 % 2,
+            quarters: quarters_of(regs[4]),
+            kind: regs[0] / 2 % 4,
+        }
+    }
+}
+
+// Step 1.
+pub fn adapt(v: u8) -> u8
+    ensures { λ r. ⌜ r ≡ adapted v ⌝ }
+{
+    LIGHT[v as usize]
+}
+
+// Step 2: times exposure / 256, at most 255.
+pub fn expose(exposure: u32, v: u8) -> u8
+    requires { ⌜ exposure < 65536 ⌝ }
+    ensures { λ r. ⌜ r ≡ exposed exposure v ⌝ }
+{
+    let n = wide(v) * exposure / 256;
+    if n < 255 {
+        return n as u8;
+    }
+    255
+}
+
+// Step 3: 255 - v if the picture is turned to its negative.
+pub fn turn(inverted: bool, v: u8) -> u8
+    ensures { λ r. ⌜ r ≡ turned inverted v ⌝ }
+{
+    if inverted {
+        return 255 - v;
+    }
+    v
+}
+
+// Steps 1 to 3, before 128 is subtracted.
+pub fn light(set: Setting, v: u8) -> u8
+    requires { ⌜ Sane set ⌝ }
+    ensures { λ r. ⌜ r ≡ lightOf set v ⌝ }
+{
+    turn(set.inverted, expose(set.exposure, adapt(v)))
+}
+
+// The columns and rows beside one; beyond an edge of the sensor the edge is repeated.
+fn left(x: usize) -> usize
+    ensures { λ r. ⌜ r ≡ leftOf x ⌝ }
+{
+    if x == 0 {
+        return 0;
+    }
+    x - 1
+}
+
+fn right(x: usize) -> usize
+    requires { ⌜ x < 128 ⌝ }
+    ensures { λ r. ⌜ r ≡ rightOf x ⌝ }
+{
+    if x < 127 {
+        return x + 1;
+    }
+    127
+}
+
+fn above(row: usize) -> usize
+    ensures { λ r. ⌜ r ≡ aboveOf row ⌝ }
+{
+    if row == 0 {
+        return 0;
+    }
+    row - 1
+}
+
+fn below(row: usize) -> usize
+    requires { ⌜ row < 128 ⌝ }
+    ensures { λ r. ⌜ r ≡ belowOf row ⌝ }
+{
+    if row < 127 {
+        return row + 1;
+    }
+    127
+}
+
+// The lit value at a column and a row, less 128.
+pub fn signed_at(frame: &[u8], set: Setting, x: usize, row: usize) -> i32
+    requires { ⌜ Inside (length (now frame)) x row ⌝ }
+    requires { ⌜ Sane set ⌝ }
+    ensures { λ r. ⌜ r ≡ signedAt (litOf (now (frame .entry)) set) x row ⌝ }
+{
+    light(set, frame[row * 128 + x]) as i32 - 128
+}
+
+// The three signed values around a column of a row.
+fn three(frame: &[u8], set: Setting, x: usize, row: usize) -> [i32; 3]
+    requires { ⌜ Inside (length (now frame)) x row ⌝ }
+    requires { ⌜ Sane set ⌝ }
+    ensures { λ r. ⌜ r ≡ threeOf (litOf (now (frame .entry)) set) x row ⌝ }
+{
+    [
+        signed_at(frame, set, left(x), row),
+        signed_at(frame, set, x, row),
+        signed_at(frame, set, right(x), row),
+    ]
+}
+
+// The nine signed values around a pixel, three rows of three.
+pub fn nine(frame: &[u8], set: Setting, x: usize, row: usize) -> [[i32; 3]; 3]
+    requires { ⌜ Inside (length (now frame)) x row ⌝ }
+    requires { ⌜ Sane set ⌝ }
+    ensures { λ r. ⌜ r ≡ nineOf (litOf (now (frame .entry)) set) x row ⌝ }
+{
+    [
+        three(frame, set, x, above(row)),
+        three(frame, set, x, row),
+        three(frame, set, x, below(row)),
+    ]
+}
+
+// Held to -128..127.
+pub fn hold(v: i32) -> i32
+    ensures { λ r. ⌜ r ≡ held v ⌝ }
+{
+    if v < -128 {
+        return -128;
+    }
+    if 127 < v {
+        return 127;
+    }
+    v
+}
+
+// Held to 0..255.
+pub fn hold_high(v: i32) -> i32
+    ensures { λ r. ⌜ r ≡ heldHigh v ⌝ }
+{
+    if v < 0 {
+        return 0;
+    }
+    if 255 < v {
+        return 255;
+    }
+    v
+}
+
+// 2P - W - E.
+fn across(n: [[i32; 3]; 3]) -> i32
+    requires { ⌜ Small n ⌝ }
+    ensures { λ r. ⌜ r ≡ acrossOf n ⌝ }
+{
+    2 * n[1][1] - n[1][0] - n[1][2]
+}
+
+// 2P - N - S.
+fn upright(n: [[i32; 3]; 3]) -> i32
+    requires { ⌜ Small n ⌝ }
+    ensures { λ r. ⌜ r ≡ uprightOf n ⌝ }
+{
+    2 * n[1][1] - n[0][1] - n[2][1]
+}
+
+// 4P - N - S - E - W.
+fn around(n: [[i32; 3]; 3]) -> i32
+    requires { ⌜ Small n ⌝ }
+    ensures { λ r. ⌜ r ≡ aroundOf n ⌝ }
+{
+    4 * n[1][1] - n[0][1] - n[2][1] - n[1][2] - n[1][0]
+}
+
+// P + d times α, the quarters cut toward zero.
+fn enhance(quarters: u8, n: [[i32; 3]; 3], d: i32) -> i32
+    requires { ⌜ Small n ⌝ }
+    requires { ⌜ (quarters ≤ 20) × (natAbs d ≤ 1024) ⌝ }
+    ensures { λ r. ⌜ r ≡ enhanced quarters n d ⌝ }
+{
+    (4 * n[1][1] + quarters as i32 * d) / 4
+}
+
+// d times α, the quarters cut toward zero.
+fn extract(quarters: u8, d: i32) -> i32
+    requires { ⌜ (quarters ≤ 20) × (natAbs d ≤ 1024) ⌝ }
+    ensures { λ r. ⌜ r ≡ extracted quarters d ⌝ }
+{
+    quarters as i32 * d / 4
+}
+
+// The filters of modes 2, 3, C, D, E and F.
+pub fn mode_2(quarters: u8, n: [[i32; 3]; 3]) -> i32
+    requires { ⌜ (quarters ≤ 20) × Small n ⌝ }
+    ensures { λ r. ⌜ r ≡ mode2 quarters n ⌝ }
+{
+    hold_high(enhance(quarters, n, across(n)))
+}
+
+pub fn mode_3(quarters: u8, n: [[i32; 3]; 3]) -> i32
+    requires { ⌜ (quarters ≤ 20) × Small n ⌝ }
+    ensures { λ r. ⌜ r ≡ mode3 quarters n ⌝ }
+{
+    hold(extract(quarters, across(n)))
+}
+
+pub fn mode_c(quarters: u8, n: [[i32; 3]; 3]) -> i32
+    requires { ⌜ (quarters ≤ 20) × Small n ⌝ }
+    ensures { λ r. ⌜ r ≡ modeC quarters n ⌝ }
+{
+    hold(enhance(quarters, n, upright(n)))
+}
+
+pub fn mode_d(quarters: u8, n: [[i32; 3]; 3]) -> i32
+    requires { ⌜ (quarters ≤ 20) × Small n ⌝ }
+    ensures { λ r. ⌜ r ≡ modeD quarters n ⌝ }
+{
+    hold(extract(quarters, upright(n)))
+}
+
+pub fn mode_e(quarters: u8, n: [[i32; 3]; 3]) -> i32
+    requires { ⌜ (quarters ≤ 20) × Small n ⌝ }
+    ensures { λ r. ⌜ r ≡ modeE quarters n ⌝ }
+{
+    hold(enhance(quarters, n, around(n)))
+}
+
+pub fn mode_f(quarters: u8, n: [[i32; 3]; 3]) -> i32
+    requires { ⌜ (quarters ≤ 20) × Small n ⌝ }
+    ensures { λ r. ⌜ r ≡ modeF quarters n ⌝ }
+{
+    hold(extract(quarters, around(n)))
+}
+
+// Step 4: the value by the mode.
+pub fn edge(mode: u8, quarters: u8, n: [[i32; 3]; 3]) -> i32
+    requires { ⌜ (quarters ≤ 20) × Small n ⌝ }
+    ensures { λ r. ⌜ r ≡ edgeOf mode quarters n ⌝ }
+{
+    match mode {
+        0x1 => 0,
+        0x2 => mode_2(quarters, n),
+        0x3 => mode_3(quarters, n),
+        0xC => mode_c(quarters, n),
+        0xD => mode_d(quarters, n),
+        0xE => mode_e(quarters, n),
+        0xF => mode_f(quarters, n),
+        _ => n[1][1],
+    }
+}
+
+// Modes 0 and 4 to B give P as it is.
+fn plain(mode: u8) -> bool
+    ensures { λ r. ⌜ r ≡ isPlain mode ⌝ }
+{
+    if mode == 0 {
+        return true;
+    }
+    if mode < 4 {
+        return false;
+    }
+    mode < 12
+}
+
+// The step 4 value of a pixel. The nine values are worked out only where a filter asks for them.
+pub fn step_4(frame: &[u8], set: Setting, x: usize, row: usize) -> i32
+    requires { ⌜ Inside (length (now frame)) x row ⌝ }
+    requires { ⌜ Sane set ⌝ }
+    ensures { λ r. ⌜ r ≡ step4 (litOf (now (frame .entry)) set) set x row ⌝ }
+{
+    let mode = set.mode;
+    if mode == 1 {
+        return 0;
+    }
+    if plain(mode) {
+        return signed_at(frame, set, x, row);
+    }
+    edge(mode, set.quarters, nine(frame, set, x, row))
+}
+
+// Modes 0, 2 and 3 pass the 1-D filter.
+fn passing(mode: u8) -> bool
+    ensures { λ r. ⌜ r ≡ passes mode ⌝ }
+{
+    if mode == 0 {
+        return true;
+    }
+    if mode == 2 {
+        return true;
+    }
+    mode == 3
+}
+
+// Step 5: what its kind makes of the value and, where it asks for it, of the one a row below.
+pub fn step_5(frame: &[u8], set: Setting, x: usize, row: usize) -> i32
+    requires { ⌜ Inside (length (now frame)) x row ⌝ }
+    requires { ⌜ Sane set ⌝ }
+    ensures { λ r. ⌜ r ≡ step5 (litOf (now (frame .entry)) set) set x row ⌝ }
+{
+    let p = step_4(frame, set, x, row);
+    if !passing(set.mode) {
+        return p;
+    }
+    let kind = set.kind;
+    if kind == 0 {
+        return hold(-p);
+    }
+    if kind == 1 {
+        return hold(p);
+    }
+    hold(p - step_4(frame, set, x, below(row)))
+}
+
+// The pixel's value, 0 to 255.
+pub fn value(frame: &[u8], set: Setting, x: usize, row: usize) -> u8
+    requires { ⌜ Inside (length (now frame)) x row ⌝ }
+    requires { ⌜ Sane set ⌝ }
+    ensures { λ r. ⌜ r ≡ valueAt (litOf (now (frame .entry)) set) set x row ⌝ }
+{
+    (step_5(frame, set, x, row) + 128) as u8
+}
+
+// Step 6: the shade of a value, by the matrix's element.
+pub fn shade(regs: &[u8; 54], x: usize, row: usize, v: u8) -> u8
+    ensures { λ r. ⌜ r ≡ shadeOf (now (regs .entry)) x row v ⌝ }
+{
+    let at = 6 + 3 * (4 * (row % 4) + x % 4);
+    if v < regs[at] {
+        return 3;
+    }
+    if v < regs[at + 1] {
+        return 2;
+    }
+    if v < regs[at + 2] {
+        return 1;
+    }
+    0
+}
+
+// The shade of a pixel of the sensor. `set` is what `regs` ask.
+pub fn shade_at(frame: &[u8], set: Setting, regs: &[u8; 54], x: usize, row: usize) -> u8
+    requires { ⌜ Inside (length (now frame)) x row ⌝ }
+    requires { ⌜ set ≡ settingOf (now regs) ⌝ }
+    ensures { λ r. ⌜ r ≡ shadeAt (now (frame .entry)) (now (regs .entry)) x row ⌝ }
+{
+    // The registers are bytes: what is used of this call is its bound, for `value`.
+    exposure_of(regs);
+    shade(regs, x, row, value(frame, set, x, row))
+}
