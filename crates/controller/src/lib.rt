@@ -1,10 +1,10 @@
 // The controller of the camera cartridge: the state record, refusals and answers. The modules follow the paper's headings:
 // state (which records can exist, sizes lent), bus (read and write), capture (ticks), picture (afresh and whole), inspect.
-pub mod bus;
-pub mod capture;
-pub mod inspect;
-pub mod picture;
-pub mod state;
+mod bus;
+mod capture;
+mod inspect;
+mod picture;
+mod state;
 
 // Cartridge cycles (PHI), and sensor clocks: two cycles make one clock.
 pub struct Cycles(pub u32);

@@ -2,26 +2,39 @@
 use mathlib.Core.Bool.{Bool, true, false}
 use mathlib.Core.List.{List}
 use mathlib.Core.Path.{_≡_, refl, ap, _∙_}
-use Prim.Native.Nat.{ℕ, zero, suc, _+_, _-_, _*_, _/_, _%_, _≤_, _<_, min}
+use Prim.Native.Nat.{ℕ, zero, suc, _+_, _/_, _%_, _≤_, _<_}
 use native.Mathlib.Nat.{le-trans}
 use native.Mathlib.Omega.{arith}
 use borrow.Author.Tests.{ltb-false, ne-eqb}
 use lib.IntN.{ℤ, pos, negsuc, natAbs, _+ℤ_, _-ℤ_}
 use lib.ListN.{getD}
-use lib.Signed.{mag, nonNeg, pos-natAbs}
+use lib.Signed.{mag, ltZ, nonNeg, pos-natAbs}
+use mir.Syntax.{w32}
+use mir.Val.{SFits, toZ, ofZ}
+use mir.Facts.{toZ-ofZ}
 use lib.Dec.{T, eqb, ltb, lit<, lit≤}
 use Rattle.laws.specs.Pick.{pick}
-use Rattle.laws.proofs.Order.{split}
 use Rattle.laws.proofs.Pick.{pick-ind, never}
 use Rattle.laws.proofs.Signed.{sub-ind, abs-mag}
 use Rattle.sensor.specs.declared.Setting.{Setting}
 use Rattle.sensor.specs.Taken.{exposureOf, alphas, quartersOf, settingOf, Sane}
 use Rattle.sensor.specs.Light.{exposed, turned, lightOf, litOf}
-use Rattle.sensor.specs.Edge.{held, heldHigh, nine, Small, mode2, mode3, modeC, modeD, modeE, modeF, edgeOf, isPlain, signedAt, threeOf, nineOf, step4}
+use Rattle.sensor.specs.Edge.{between, held, heldHigh, nine, Small, mode2, mode3, modeC, modeD, modeE, modeF, edgeOf, isPlain, signedAt, threeOf, nineOf, step4}
 use Rattle.sensor.specs.Row.{passes, rowFilter, step5}
 use Rattle.sensor.specs.Shade.{valueAt, element, shadeOf, shadeAt}
 
 -- ---- what is held
+
+-- low, high and v itself are held to low..high by the tests of the number read back from v's bits
+module _ (low high : ℤ) {v : ℤ} (f : SFits w32 v) where
+  pub held-below : ltZ (toZ w32 (ofZ w32 v)) low ≡ true → low ≡ between low high v
+  held-below t = simp (rw (toZ-ofZ f) at t)
+
+  pub held-above : ltZ (toZ w32 (ofZ w32 v)) low ≡ false → ltZ high (toZ w32 (ofZ w32 v)) ≡ true → high ≡ between low high v
+  held-above t u = simp (rw (toZ-ofZ f) at t, rw (toZ-ofZ f) at u)
+
+  pub held-kept : ltZ (toZ w32 (ofZ w32 v)) low ≡ false → ltZ high (toZ w32 (ofZ w32 v)) ≡ false → toZ w32 (ofZ w32 v) ≡ between low high v
+  held-kept t u = simp (toZ-ofZ f, rw (toZ-ofZ f) at t, rw (toZ-ofZ f) at u)
 
 pub held-small : (v : ℤ) → mag (held v) < 128
 unfolding held

@@ -4,9 +4,8 @@ use borrow.Author.Needs.{needs}
 use borrow.Author.Tests.{ne-eqb, not-true, not-false}
 use mathlib.Core.Path.{_≡_, ap, sym, _∙_}
 use mathlib.Core.Bool.{true}
-use Prim.Native.Nat.{_≤_}
 use native.Mathlib.Nat.{le-refl}
-use lib.IntN.{pos, natAbs}
+use lib.IntN.{pos}
 use mir.Syntax.{w32}
 use Rattle.laws.proofs.Signed.{E, val, sub, fits, read, got}
 use Rattle.sensor.specs.Light.{litOf}
