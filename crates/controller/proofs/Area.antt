@@ -12,8 +12,10 @@ use borrow.Author.Tests.{eq-eqb, ne-eqb}
 use Rattle.laws.specs.Pick.{pick}
 use Rattle.laws.specs.Bits.{bitOf}
 use Rattle.laws.proofs.Order.{split}
+use Rattle.sensor.specs.Light.{byteAt}
+use Rattle.sensor.proofs.Rows.{rows}
 use Rattle.controller.specs.Tiles.{place, shadeIn, areaOf, Bytes}
-use Rattle.controller.specs.Picture.{listed, packed, pictureShade, lowByte, highByte, pictureByte, pictureOf, afresh, pictureMeans}
+use Rattle.controller.specs.Picture.{listed, packed, pictureShade, lowByte, highByte, pictureByte, pictureOf}
 use Rattle.controller.specs.Bulk.{pixels}
 use Rattle.controller.proofs.Packed.{packed-ext, packed-of, listed-length, listed-at, listed-ext, listed-of}
 use Rattle.controller.proofs.Pixels.{by-place, stored, stored-first, stored-second, stored-other, pixels-length, pixels-bytes, pixels-passed}
@@ -136,6 +138,11 @@ picture-shown frame regs = listed-ext _ _ 3584 (λ i h. byteOf-picture frame reg
 pub picture-same : (f g regs : List ℕ) → Alike (pictureShade f regs) (pictureShade g regs) → pictureOf f regs ≡ pictureOf g regs
 picture-same f g regs e = picture-shown f regs ∙ bytes-alike _ _ e ∙ sym (picture-shown g regs)
 
+-- Two images that agree in rows 7 to 120 give the same picture under the same taken registers
+pub picture-rows : (f g regs : List ℕ) → ((x row : ℕ) → x < 128 → 7 ≤ row → row ≤ 120 → byteAt f x row ≡ byteAt g x row) → pictureOf f regs ≡ pictureOf g regs
+picture-rows f g regs alike =
+    picture-same f g regs (λ x y hx hy. rows f g alike regs x (y + 8) hx (omega arith) (omega arith) .shade)
+
 -- a RAM that shows the picture's shades has the picture in its area
 pub area-whole : (frame regs ram : List ℕ) → 8192 ≤ length ram → Bytes ram → Alike (shadeIn ram) (pictureShade frame regs) → areaOf ram ≡ pictureOf frame regs
 area-whole frame regs ram long bytes e = area-shown ram long bytes ∙ bytes-alike _ _ e ∙ sym (picture-shown frame regs)
@@ -183,12 +190,3 @@ picture-more frame regs l i a b e h all p q =
 pub picture-made : (frame regs l : List ℕ) → length l ≡ 3584 → ((k : ℕ) → k < 3584 → getD l k 0 ≡ pictureByte frame regs k) → l ≡ pictureOf frame regs
 unfolding pictureOf
 picture-made frame regs l e all = listed-of l 3584 e ∙ listed-ext _ (pictureByte frame regs) 3584 all
-
--- the two outcomes of working it out
-pub picture-refused : (frame regs out : List ℕ) → (length frame ≡ 16384 → ⊥) → afresh 4 out ≡ pictureMeans frame regs out
-unfolding pictureMeans
-picture-refused frame regs out h = simp (ne-eqb (length frame) 16384 h)
-
-pub picture-done : (frame regs out bytes : List ℕ) → length frame ≡ 16384 → bytes ≡ pictureOf frame regs → afresh 0 bytes ≡ pictureMeans frame regs out
-unfolding pictureMeans
-picture-done frame regs out bytes h e = simp (eq-eqb (length frame) 16384 h) (ap (afresh 0) e)

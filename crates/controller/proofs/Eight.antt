@@ -1,5 +1,5 @@
 -- Eight pixels of a row that stand in the same two bytes, put at once. Assumes nothing.
-use mathlib.Core.Path.{_≡_, refl, sym, ap, _∙_}
+use mathlib.Core.Path.{_≡_, refl, sym, ap, ap₂, _∙_}
 use mathlib.Core.List.{List}
 use Prim.Native.Nat.{ℕ, zero, suc, _+_, _-_, _*_, _/_, _%_, _<_, _≤_}
 use native.Mathlib.Omega.{arith}
@@ -89,3 +89,6 @@ module _ (frame regs : List ℕ) (j : ℕ) (ram : List ℕ) (aligned : j % 8 ≡
       (λ e. rw e (low ∙ sym (stored-first ram p l h (omega arith))))
       (λ e. rw e (high ∙ sym (stored-second ram p l h (omega arith))))
       (λ a b. elsewhere i a b ∙ sym (stored-other ram p l h i a b)))
+
+  pub eight-by : (a b : ℕ) → a ≡ lowByte frame regs t (j / 128) → b ≡ highByte frame regs t (j / 128) → set (set ram p a) (p + 1) b ≡ pixels frame regs j (j + 8) ram
+  eight-by a b e f = ap₂ (λ (l h : ℕ). set (set ram p l) (p + 1) h) e f ∙ sym eight

@@ -14,3 +14,4 @@ pub mod First
 pub mod Refusals
 pub mod Only
 pub mod Eight
+pub mod Afresh

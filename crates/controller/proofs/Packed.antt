@@ -18,9 +18,12 @@ pub packed-none : (f : ℕ → ℕ) → packed f 0 ≡ 0
 unfolding packed
 packed-none f = refl
 
-pub packed-more : (f : ℕ → ℕ) (n : ℕ) → packed f (n + 1) ≡ packed f n * 2 + f n
+packed-more : (f : ℕ → ℕ) (n : ℕ) → packed f (n + 1) ≡ packed f n * 2 + f n
 unfolding packed
 packed-more f n = simp add-one
+
+pub packed-next : (f : ℕ → ℕ) (n p v : ℕ) → p ≡ packed f n → v ≡ f n → p * 2 + v ≡ packed f (n + 1)
+packed-next f n p v e h = ap₂ (λ (a b : ℕ). a * 2 + b) e h ∙ sym (packed-more f n)
 
 -- the same bits pack to the same number
 pub packed-ext : (f g : ℕ → ℕ) (n : ℕ) → ((b : ℕ) → b < n → f b ≡ g b) → packed f n ≡ packed g n

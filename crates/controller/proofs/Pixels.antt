@@ -35,6 +35,9 @@ pub shade-small : (frame regs : List ℕ) (x row : ℕ) → shadeAt frame regs x
 unfolding shadeAt
 shade-small frame regs x row = of-small regs x row _
 
+pub shade-bound : (frame regs : List ℕ) (x row r : ℕ) → r ≡ shadeAt frame regs x row → r < 4
+shade-bound frame regs x row r e = rw e (shade-small frame regs x row)
+
 -- ---- one pixel, byte by byte
 
 -- a place is one of two beside each other, or neither

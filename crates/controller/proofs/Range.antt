@@ -1,13 +1,13 @@
 -- Laws of a range of the picture's pixels, and of how many are done after so many cycles. Assumes nothing.
 use mathlib.Core.Path.{_≡_, refl, sym, ap, _∙_}
-use mathlib.Core.Bool.{Bool, true, false, and-false, and-not-self}
+use mathlib.Core.Bool.{Bool, true, false, not, and-false, and-not-self}
 use mathlib.Core.List.{List}
 use Prim.Native.Nat.{ℕ, zero, suc, _+_, _-_, _*_, _/_, _%_, _<_, _≤_, min}
 use native.Mathlib.Numerals.{add-one}
 use native.Mathlib.Omega.{arith}
 use lib.Dec.{leb, ltb, eqb}
 use lib.ListN.{length, length-set}
-use borrow.Author.Tests.{lt-ltb, le-ltb, le-leb, lt-leb, eq-eqb, ne-eqb}
+use borrow.Author.Tests.{eqb-true, lt-ltb, le-ltb, le-leb, lt-leb, eq-eqb, ne-eqb}
 use Rattle.laws.specs.Pick.{pick}
 use Rattle.laws.proofs.Order.{split}
 use Rattle.sensor.specs.Taken.{exposureOf}
@@ -15,6 +15,7 @@ use Rattle.controller.specs.Timing.{nSet, totalOf, readingFrom, rowsRead
 use Rattle.controller.specs.Tiles.{putAt}
 use Rattle.controller.specs.Capture.{rowOf, putPixel, writtenAt}
 use Rattle.controller.specs.Bulk.{putNth, pixels, pictureFrom, doneBy}
+use Rattle.controller.proofs.Lent.{both-left}
 
 -- ---- a range of pixels, of one frame and the registers taken
 
@@ -38,6 +39,10 @@ module _ (frame regs : List ℕ) where
 
   pub pixels-more : (from j : ℕ) (ram : List ℕ) → from ≤ j → pixels frame regs from (j + 1) ram ≡ putNth frame regs j (pixels frame regs from j ram)
   pixels-more from j ram h = simp add-one (pixels-suc from j ram h)
+
+  -- one pixel
+  pub pixels-one : (j : ℕ) (ram : List ℕ) → pixels frame regs j (j + 1) ram ≡ putNth frame regs j ram
+  pixels-one j ram = pixels-more j j ram (omega arith) ∙ ap (putNth frame regs j) (pixels-none j ram)
 
   -- from..mid, and then mid..to
   pub pixels-join : (from mid to : ℕ) (ram : List ℕ) → from ≤ mid → mid ≤ to → pixels frame regs mid to (pixels frame regs from mid ram) ≡ pixels frame regs from to ram
@@ -123,6 +128,15 @@ module _ (regs : List ℕ) where
   -- as a capture ends, all are done
   pub done-all : doneBy regs (totalOf regs) ≡ 14336
   done-all = let t = timed regs in done-high (totalOf regs) (omega arith)
+
+-- ---- which pixel is due
+
+-- no pixel but the candidate is due at a cycle
+pub due-only : (regs : List ℕ) (k e : ℕ) → due regs k e ≡ true → candidate regs e ≡ k
+unfolding due
+due-only regs k e h =
+    let now : e / 2 ≡ readingFrom regs + k + 1 = eqb-true (e / 2) (readingFrom regs + k + 1) (both-left _ (not (eqb ((e - 1) / 2) (readingFrom regs + k + 1))) h) in
+    omega arith
 
 -- ---- pixel k of the sensor, and pixel j of the picture
 

@@ -5,6 +5,7 @@ use super::Cycles;
 use super::Refusal;
 use super::TickAnswer;
 use super::TickDone;
+use super::picture::put_row;
 use super::state::exposure;
 use super::state::ram_allowed;
 use super::state::total;
@@ -92,6 +93,30 @@ fn put_nth(ram: &mut [u8], store: &[u8], set: Setting, regs: &[u8; 54], j: usize
     put_pixel(ram, x, y, shade);
 }
 
+// Puts pixel j of the picture, or the eight from j on where they stand in the same two bytes and all are to be put: the next to put.
+fn put_some(
+    ram: &mut [u8],
+    store: &[u8],
+    set: Setting,
+    regs: &[u8; 54],
+    j: usize,
+    to: usize,
+) -> usize
+    requires { ⌜ (j < to) × (to ≤ 14336) × (8192 ≤ length (now ram)) × (length (now store) ≡ 16384) × (set ≡ settingOf (now regs)) ⌝ }
+    ensures { λ r. ⌜ (now (ram .exit) ≡ pixels (now (store .entry)) (now (regs .entry)) j r (now (ram .entry))) × (j < r) × (r ≤ to) ⌝ }
+{
+    if j % 8 != 0 {
+        put_nth(ram, store, set, regs, j);
+        return j + 1;
+    }
+    if to < j + 8 {
+        put_nth(ram, store, set, regs, j);
+        return j + 1;
+    }
+    put_row(ram, store, set, regs, j);
+    j + 8
+}
+
 // Puts the pixels from..to of the picture, in order.
 fn put_pixels(ram: &mut [u8], store: &[u8], set: Setting, regs: &[u8; 54], from: usize, to: usize)
     requires { ⌜ (from ≤ to) × (to ≤ 14336) × (8192 ≤ length (now ram)) × (length (now store) ≡ 16384) × (set ≡ settingOf (now regs)) ⌝ }
@@ -99,8 +124,7 @@ fn put_pixels(ram: &mut [u8], store: &[u8], set: Setting, regs: &[u8; 54], from:
 {
     let mut j = from;
     while j < to {
-        put_nth(ram, store, set, regs, j);
-        j += 1;
+        j = put_some(ram, store, set, regs, j, to);
     }
 }
 

@@ -6,7 +6,7 @@ use Rattle.controller.proofs.Controller.at_end.Tie as tie
 
 returns : tie.Need-returns
 unfolding ended
-returns c = cc
+returns c = rw (c .even .ensures)
 
 pub at-end-spec : {M : Type 1} → statement M
 at-end-spec = tie.close (tie.spec (λ c. search needs) (λ c κs. search needs) (λ c. search needs) returns)

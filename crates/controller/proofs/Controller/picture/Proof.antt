@@ -1,6 +1,6 @@
 -- `controller::Controller::picture` meets its contract: refused where the frame is not whole, else filled. Assumes nothing.
 use native.Mathlib.Omega.{arith}
-use Rattle.controller.proofs.Area.{picture-refused, picture-done}
+use Rattle.controller.proofs.Afresh.{picture-refused, picture-done}
 use borrow.Author.Needs.{needs}
 use Rattle.controller.proofs.Controller.picture.Statement.{statement}
 use Rattle.controller.proofs.Controller.picture.Tie as tie

@@ -14,7 +14,7 @@ put-pixel-requires c κs =
 
 returns : tie.Need-returns
 unfolding putNth
-returns c = cc
+returns c = rw (c .before .before .before .before .shade-at .ensures) at (c .before .before .put-pixel .ensures)
 
 pub put-nth-spec : {M : Type 1} → statement M
 put-nth-spec =

@@ -8,7 +8,7 @@ use Rattle.controller.proofs.capture.put_pixel.Tie as tie
 
 returns : tie.Need-returns
 unfolding putAt
-returns c = cc
+returns c = rw (c .before .before .put-bit .ensures, c .put-bit2 .ensures)
 
 pub put-pixel-spec : {M : Type 1} → statement M
 put-pixel-spec =

@@ -6,7 +6,10 @@ use Rattle.controller.proofs.capture.write_between.Tie as tie
 
 returns : tie.Need-returns
 unfolding doneBy
-returns c = cc
+returns c =
+    let p = c .before .before in
+    let d = p .before .before .before in
+    rw (d .before .done-by .ensures .0, d .done-by2 .ensures .0, d .before .before .picture-from .ensures .0) at (p .put-pixels .ensures)
 
 pub write-between-spec : {M : Type 1} → statement M
 write-between-spec =

@@ -1,5 +1,5 @@
 -- `controller::picture::put_row` meets its contract: the eight pixels are two bytes. Assumes nothing.
-use Rattle.controller.proofs.Eight.{eight}
+use Rattle.controller.proofs.Eight.{eight-by}
 use native.Mathlib.Omega.{arith}
 use lib.ListN.{length-set}
 use borrow.Author.Needs.{needs}
@@ -9,7 +9,8 @@ use Rattle.controller.proofs.picture.put_row.Tie as tie
 returns : tie.Need-returns
 returns c =
     let a = c .before .before .before .args in
-    cc (eight (a .store .now) (a .regs .now) (a .j) (a .ram .now) (omega arith) (omega arith) (omega arith) (λ i. omega (arith, c .before .before .slice-known .given i)))
+    eight-by (a .store .now) (a .regs .now) (a .j) (a .ram .now) (omega arith) (omega arith) (omega arith) (λ i. omega (arith, c .before .before .slice-known .given i))
+    (c .tile-row .result .low) (c .tile-row .result .high) (c .tile-row .ensures .0) (c .tile-row .ensures .1)
 
 pub put-row-spec : {M : Type 1} → statement M
 put-row-spec =

@@ -1,12 +1,12 @@
 -- `controller::picture::tile_row` meets its contract. The invariant: the bits of the first b pixels, packed. Assumes nothing.
-use mathlib.Core.Path.{_≡_, sym}
+use mathlib.Core.Path.{_≡_, sym, ap}
 use Prim.Native.Nat.{ℕ, _+_, _-_, _*_, _/_, _%_, _<_, _≤_}
 use native.Mathlib.Omega.{arith}
 use mathlib.Core.List.{List}
 use borrow.Author.Needs.{needs}
 use Rattle.controller.specs.Picture.{packed, pictureShade, lowByte, highByte}
-use Rattle.controller.proofs.Packed.{packed-none, packed-more, packed-room}
-use Rattle.controller.proofs.Pixels.{shade-small}
+use Rattle.controller.proofs.Packed.{packed-none, packed-next, packed-room}
+use Rattle.controller.proofs.Pixels.{shade-small, shade-bound}
 use Rattle.controller.proofs.picture.tile_row.Statement.{statement}
 use Rattle.controller.proofs.picture.tile_row.Tie as tie
 
@@ -32,16 +32,16 @@ room c =
     let s = shade-small (a .frame .now) (a .regs .now) in (
       omega (arith, packed-room (lows (a .frame .now) (a .regs .now) (a .t) (a .y)) (λ b. omega arith) (l .b) (omega arith)),
       omega (arith, packed-room (highs (a .frame .now) (a .regs .now) (a .t) (a .y)) (λ b. omega (arith, s (8 * a .t + b) (a .y + 8))) (l .b) (omega arith)),
-      omega (arith, s (8 * a .t + l .b) (a .y + 8)),
+      shade-bound _ _ _ _ _ (c .shade-at .ensures),
     )
 
 loop-again : tie.Need-loop-again Inv-loop μ-loop
 loop-again c =
     let a = c .before .before .before .before .args in
-    let b = c .before .before .loop .b in (
+    let l = c .before .before .loop in (
       omega arith,
-      cc (packed-more (lows (a .frame .now) (a .regs .now) (a .t) (a .y)) b),
-      cc (packed-more (highs (a .frame .now) (a .regs .now) (a .t) (a .y)) b),
+      packed-next (lows (a .frame .now) (a .regs .now) (a .t) (a .y)) (l .b) (l .low) _ (l .inv .1) (ap (λ (n : ℕ). n % 2) (c .shade-at .ensures)),
+      packed-next (highs (a .frame .now) (a .regs .now) (a .t) (a .y)) (l .b) (l .high) _ (l .inv .2) (ap (λ (n : ℕ). n / 2) (c .shade-at .ensures)),
     )
 
 returns : tie.Need-returns Inv-loop μ-loop
