@@ -48,26 +48,24 @@ inside size most n b a pos h =
     omega
     (arith, mod-lt a pos, mul-le-mul-right size (mod-lt b (h .some)), div-add-mod' n size, h .whole)
 
--- the RAM's lengths
-pub record RamLent (n : ℕ) : Type 0 where
-  pub least : 8192 ≤ n
-  pub most : n ≤ 131072
-  pub whole : n % 8192 ≡ 0
+-- from one bank to the most, and nothing beside them
+pub record Sized (size count n : ℕ) : Type 0 where
+  pub least : size ≤ n
+  pub most : n ≤ count * size
+  pub whole : n % size ≡ 0
 
-pub ram-lent : (n : ℕ) → ramAllowed n ≡ true → RamLent n
-ram-lent n h = let b = banks 8192 16 n h in omega arith
+pub sized : (size most n : ℕ) → Banks size most n → Sized size most n
+sized size most n h =
+    omega (arith, div-add-mod' n size, mul-le-mul-right size (h .some), mul-le-mul-right size (h .few), h .whole)
+
+pub ram-lent : (n : ℕ) → ramAllowed n ≡ true → Sized 8192 16 n
+ram-lent n h = sized 8192 16 n (banks 8192 16 n h)
+
+pub rom-lent : (n : ℕ) → romAllowed n ≡ true → Sized 16384 64 n
+rom-lent n h = sized 16384 64 n (banks 16384 64 n h)
 
 pub ram-inside : (n b a : ℕ) → ramAllowed n ≡ true → b % (n / 8192) * 8192 + a % 8192 < n
 ram-inside n b a h = inside 8192 16 n b a (omega arith) (banks 8192 16 n h)
-
--- the ROM's
-pub record RomLent (n : ℕ) : Type 0 where
-  pub least : 16384 ≤ n
-  pub most : n ≤ 1048576
-  pub whole : n % 16384 ≡ 0
-
-pub rom-lent : (n : ℕ) → romAllowed n ≡ true → RomLent n
-rom-lent n h = let b = banks 16384 64 n h in omega arith
 
 pub rom-inside : (n b a : ℕ) → romAllowed n ≡ true → b % (n / 16384) * 16384 + a % 16384 < n
 rom-inside n b a h = inside 16384 64 n b a (omega arith) (banks 16384 64 n h)

@@ -16,7 +16,7 @@ ghost use mathlib.Core.List.{List};
 ghost use Prim.Native.Nat.{ℕ, _+_, _-_, _*_, _/_, _%_, _<_, _≤_, min};
 ghost use lib.ListN.{length, getD};
 ghost use Rattle.laws.specs.Bits.{putBit};
-ghost use Rattle.sensor.specs.Taken.{settingOf};
+ghost use Rattle.sensor.specs.Taken.{Asked};
 ghost use Rattle.controller.specs.Timing.{clocks, totalOf};
 ghost use Rattle.controller.specs.Tiles.{putAt};
 ghost use Rattle.controller.specs.Bulk.{putNth, pixels, pictureFrom, doneBy};
@@ -84,7 +84,7 @@ fn put_pixel(ram: &mut [u8], x: usize, y: usize, shade: u8)
 
 // Puts pixel j of the picture, row by row: picture row y is sensor row y + 8.
 fn put_nth(ram: &mut [u8], store: &[u8], set: Setting, regs: &[u8; 54], j: usize)
-    requires { ⌜ (j < 14336) × (8192 ≤ length (now ram)) × (length (now store) ≡ 16384) × (set ≡ settingOf (now regs)) ⌝ }
+    requires { ⌜ (j < 14336) × (8192 ≤ length (now ram)) × (length (now store) ≡ 16384) × (Asked set (now regs)) ⌝ }
     ensures { λ _. ⌜ now (ram .exit) ≡ putNth (now (store .entry)) (now (regs .entry)) j (now (ram .entry)) ⌝ }
 {
     let x = j % 128;
@@ -102,7 +102,7 @@ fn put_some(
     j: usize,
     to: usize,
 ) -> usize
-    requires { ⌜ (j < to) × (to ≤ 14336) × (8192 ≤ length (now ram)) × (length (now store) ≡ 16384) × (set ≡ settingOf (now regs)) ⌝ }
+    requires { ⌜ (j < to) × (to ≤ 14336) × (8192 ≤ length (now ram)) × (length (now store) ≡ 16384) × (Asked set (now regs)) ⌝ }
     ensures { λ r. ⌜ (now (ram .exit) ≡ pixels (now (store .entry)) (now (regs .entry)) j r (now (ram .entry))) × (j < r) × (r ≤ to) ⌝ }
 {
     if j % 8 != 0 {
@@ -119,7 +119,7 @@ fn put_some(
 
 // Puts the pixels from..to of the picture, in order.
 fn put_pixels(ram: &mut [u8], store: &[u8], set: Setting, regs: &[u8; 54], from: usize, to: usize)
-    requires { ⌜ (from ≤ to) × (to ≤ 14336) × (8192 ≤ length (now ram)) × (length (now store) ≡ 16384) × (set ≡ settingOf (now regs)) ⌝ }
+    requires { ⌜ (from ≤ to) × (to ≤ 14336) × (8192 ≤ length (now ram)) × (length (now store) ≡ 16384) × (Asked set (now regs)) ⌝ }
     ensures { λ _. ⌜ now (ram .exit) ≡ pixels (now (store .entry)) (now (regs .entry)) from to (now (ram .entry)) ⌝ }
 {
     let mut j = from;

@@ -6,7 +6,7 @@ use sensor::Setting;
 ghost use mathlib.Core.Path.{_≡_};
 ghost use Prim.Native.Nat.{ℕ, _+_, _%_, _<_, _≤_};
 ghost use lib.ListN.{length};
-ghost use Rattle.sensor.specs.Taken.{settingOf};
+ghost use Rattle.sensor.specs.Taken.{Asked};
 ghost use Rattle.controller.specs.Outcome.{writeNumber};
 ghost use Rattle.controller.specs.Picture.{lowByte, highByte, pictureOf, afresh, pictureMeans};
 ghost use Rattle.controller.specs.Bulk.{pixels};
@@ -20,7 +20,7 @@ pub struct Eight {
 // The eight pixels of picture row y from column 8 * t on. `set` is what `regs` ask.
 pub fn tile_row(frame: &[u8], set: Setting, regs: &[u8; 54], t: usize, y: usize) -> Eight
     requires { ⌜ (length (now frame) ≡ 16384) × (t < 16) × (y < 112) ⌝ }
-    requires { ⌜ set ≡ settingOf (now regs) ⌝ }
+    requires { ⌜ Asked set (now regs) ⌝ }
     ensures { λ r. ⌜ (r .low ≡ lowByte (now (frame .entry)) (now (regs .entry)) t y) × (r .high ≡ highByte (now (frame .entry)) (now (regs .entry)) t y) ⌝ }
 {
     let mut low: u8 = 0;
@@ -36,7 +36,7 @@ pub fn tile_row(frame: &[u8], set: Setting, regs: &[u8; 54], t: usize, y: usize)
 // The picture's bytes in order, two a turn.
 fn fill(frame: &[u8], set: Setting, regs: &[u8; 54], out: &mut [u8])
     requires { ⌜ (length (now frame) ≡ 16384) × (length (now out) ≡ 3584) ⌝ }
-    requires { ⌜ set ≡ settingOf (now regs) ⌝ }
+    requires { ⌜ Asked set (now regs) ⌝ }
     ensures { λ _. ⌜ now (out .exit) ≡ pictureOf (now (frame .entry)) (now (regs .entry)) ⌝ }
 {
     let mut i = 0;
@@ -52,7 +52,7 @@ fn fill(frame: &[u8], set: Setting, regs: &[u8; 54], out: &mut [u8])
 // Pixels j to j + 7 of the picture, which stand in the same two bytes.
 pub fn put_row(ram: &mut [u8], store: &[u8], set: Setting, regs: &[u8; 54], j: usize)
     requires { ⌜ (8192 ≤ length (now ram)) × (length (now store) ≡ 16384) × (j % 8 ≡ 0) × (j + 8 ≤ 14336) ⌝ }
-    requires { ⌜ set ≡ settingOf (now regs) ⌝ }
+    requires { ⌜ Asked set (now regs) ⌝ }
     ensures { λ _. ⌜ now (ram .exit) ≡ pixels (now (store .entry)) (now (regs .entry)) j (j + 8) (now (ram .entry)) ⌝ }
 {
     let t = j % 128 / 8;

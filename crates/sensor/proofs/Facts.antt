@@ -60,7 +60,7 @@ lit-small frame set x row = light-small set _
 
 -- ---- what the registers ask
 
-quarters-small : (k : ℕ) → getD alphas k 0 ≤ 20
+pub quarters-small : (k : ℕ) → getD alphas k 0 ≤ 20
 quarters-small zero = lit≤ tt
 quarters-small (suc zero) = lit≤ tt
 quarters-small (suc (suc zero)) = lit≤ tt

@@ -4,7 +4,7 @@ ghost use mathlib.Core.List.{List};
 ghost use Prim.Native.Nat.{ℕ, _+_, _-_, _/_, _%_, _<_, _≤_, min};
 ghost use lib.IntN.{natAbs};
 ghost use lib.ListN.{length, getD};
-ghost use Rattle.sensor.specs.Taken.{exposureOf, alphas, settingOf, Sane};
+ghost use Rattle.sensor.specs.Taken.{exposureOf, alphas, Sane, Asked};
 ghost use Rattle.sensor.specs.Light.{Inside, adapted, exposed, turned, lightOf, litOf};
 ghost use Rattle.sensor.specs.Edge.{held, heldHigh, Small, acrossOf, uprightOf, aroundOf, enhanced, extracted, mode2, mode3, modeC, modeD, modeE, modeF, edgeOf, isPlain, leftOf, rightOf, aboveOf, belowOf, signedAt, threeOf, nineOf, step4};
 ghost use Rattle.sensor.specs.Row.{passes, step5};
@@ -306,7 +306,7 @@ fn exposure_of(regs: &[u8; 54]) -> u32
 impl Setting {
     // What 54 registers ask.
     pub fn of(regs: &[u8; 54]) -> Setting
-        ensures { λ r. ⌜ r ≡ settingOf (now (regs .entry)) ⌝ }
+        ensures { λ r. ⌜ Asked r (now (regs .entry)) ⌝ }
     {
         Setting {
             exposure: exposure_of(regs),
@@ -647,10 +647,8 @@ pub fn shade(regs: &[u8; 54], x: usize, row: usize, v: u8) -> u8
 // The shade of a pixel of the sensor. `set` is what `regs` ask.
 pub fn shade_at(frame: &[u8], set: Setting, regs: &[u8; 54], x: usize, row: usize) -> u8
     requires { ⌜ Inside (length (now frame)) x row ⌝ }
-    requires { ⌜ set ≡ settingOf (now regs) ⌝ }
+    requires { ⌜ Asked set (now regs) ⌝ }
     ensures { λ r. ⌜ r ≡ shadeAt (now (frame .entry)) (now (regs .entry)) x row ⌝ }
 {
-    // The registers are bytes: what is used of this call is its bound, for `value`.
-    exposure_of(regs);
     shade(regs, x, row, value(frame, set, x, row))
 }

@@ -1,0 +1,2 @@
+-- The figures' statement.
+pub mod Figures

@@ -1,0 +1,2 @@
+-- The checked figures.
+pub mod Figures
