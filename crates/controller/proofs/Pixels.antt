@@ -1,40 +1,24 @@
 -- What putting pixels does to the RAM, pixel by pixel and byte by byte. Assumes nothing.
 use mathlib.Core.Path.{_≡_, refl, sym, _∙_}
-use mathlib.Core.Bool.{Bool, true, false}
 use mathlib.Core.List.{List}
 use Prim.Native.Nat.{ℕ, zero, suc, _+_, _-_, _*_, _/_, _%_, _<_, _≤_}
 use native.Mathlib.Omega.{arith}
-use lib.Dec.{leb, ltb}
 use lib.ListN.{length, getD, set, length-set}
 use lib.Seq.{getD-set-same, getD-set-other}
 use borrow.Author.Tests.{le-leb, lt-leb}
-use Rattle.laws.specs.Pick.{pick}
 use Rattle.laws.specs.Bits.{bitOf, putBit}
 use Rattle.laws.proofs.Order.{split}
 use Rattle.laws.proofs.BitLaws.{put-bit-same, put-bit-other, put-byte}
-use Rattle.sensor.specs.Shade.{element, shadeOf, shadeAt}
+use Rattle.sensor.specs.Shade.{shadeAt}
+use Rattle.sensor.proofs.Facts.{shade-small}
 use Rattle.controller.specs.Tiles.{place, putAt, shadeIn, Bytes}
 use Rattle.controller.specs.Picture.{pictureShade}
 use Rattle.controller.specs.Bulk.{putNth, pixels}
+use Rattle.controller.proofs.Range.{put-length, pixels-suc}
 
 -- ---- shades
 
 -- a shade is one of four
-four : (a b c : Bool) → pick a 3 (pick b 2 (pick c 1 0)) < 4
-four true b c = omega arith
-four false true c = omega arith
-four false false true = omega arith
-four false false false = omega arith
-
-of-small : (regs : List ℕ) (x y v : ℕ) → shadeOf regs x y v < 4
-unfolding shadeOf
-of-small regs x y v =
-    four (ltb v (getD regs (element x y) 0)) (ltb v (getD regs (element x y + 1) 0)) (ltb v (getD regs (element x y + 2) 0))
-
-pub shade-small : (frame regs : List ℕ) (x row : ℕ) → shadeAt frame regs x row < 4
-unfolding shadeAt
-shade-small frame regs x row = of-small regs x row _
-
 pub shade-bound : (frame regs : List ℕ) (x row r : ℕ) → r ≡ shadeAt frame regs x row → r < 4
 shade-bound frame regs x row r e = rw e (shade-small frame regs x row)
 
@@ -78,10 +62,6 @@ module _ (ram : List ℕ) (x y s : ℕ) where
 
   abbrev high : ℕ
   high = putBit (getD ram (place x y + 1) 0) (7 - x % 8) (s / 2)
-
-  pub put-length : length (putAt ram x y s) ≡ length ram
-  unfolding putAt
-  put-length = simp length-set
 
   -- the bytes that hold the pixel's bits, and every other byte
   pub put-low : place x y < length ram → getD (putAt ram x y s) (place x y) 0 ≡ low
@@ -130,14 +110,10 @@ module _ (ram : List ℕ) (x y s : ℕ) (hx : x < 128) (hy : y < 112) where
 -- ---- a range of pixels
 
 module _ (frame regs : List ℕ) where
-  -- no pixel, and one pixel more
+  -- no pixel more
   step-out : (from k : ℕ) (ram : List ℕ) → k < from → pixels frame regs from (suc k) ram ≡ ram
   unfolding pixels
   step-out from k ram h = simp (lt-leb from k h)
-
-  pub step-in : (from k : ℕ) (ram : List ℕ) → from ≤ k → pixels frame regs from (suc k) ram ≡ putNth frame regs k (pixels frame regs from k ram)
-  unfolding pixels
-  step-in from k ram h = simp (le-leb from k h)
 
   -- what holds of the RAM and is kept by each pixel of the range holds after it
   pub pixels-keep : (P : List ℕ → Type 0) (from to : ℕ) (ram : List ℕ) → ((j : ℕ) (r : List ℕ) → from ≤ j → j < to → P r → P (putNth frame regs j r)) → P ram → P (pixels frame regs from to ram)
@@ -146,7 +122,7 @@ module _ (frame regs : List ℕ) where
   pixels-keep P from (suc k) ram keep p =
       split k from
       (λ out. rw (step-out from k ram out) p)
-      (λ on. rw (step-in from k ram on) (keep k _ on (omega arith) (pixels-keep P from k ram (λ j r a b. keep j r a (omega arith)) p)))
+      (λ on. rw (pixels-suc frame regs from k ram on) (keep k _ on (omega arith) (pixels-keep P from k ram (λ j r a b. keep j r a (omega arith)) p)))
 
   -- pixel j put, by the laws on one pixel
   module _ (j : ℕ) (r : List ℕ) where
@@ -212,7 +188,7 @@ module _ (frame regs : List ℕ) where
   pixels-passed from zero ram most long j a b = absurd (omega arith)
   pixels-passed from (suc k) ram most long j a b =
       let l : 8192 ≤ length (pixels frame regs from k ram) = rw (pixels-length from k ram) long in
-      rw (step-in from k ram (omega arith))
+      rw (pixels-suc frame regs from k ram (omega arith))
       (split j k
       (λ before. nth-other k (pixels frame regs from k ram) (omega arith) l j (λ e. omega arith) ∙ pixels-passed from k ram (omega arith) long j a before)
       (λ here. let e : j ≡ k = omega arith in rw e (nth-same k (pixels frame regs from k ram) (omega arith) l)))

@@ -24,10 +24,6 @@ unfolding putAt
 put-length ram x y shade = simp length-set
 
 module _ (frame regs : List ℕ) where
-  pub nth-length : (j : ℕ) (ram : List ℕ) → length (putNth frame regs j ram) ≡ length ram
-  unfolding putNth
-  nth-length j ram = put-length ram (j % 128) (j / 128) _
-
   pub pixels-none : (from : ℕ) (ram : List ℕ) → pixels frame regs from from ram ≡ ram
   unfolding pixels
   pixels-none zero ram = refl
@@ -57,14 +53,6 @@ module _ (frame regs : List ℕ) where
       pixels-suc mid to _ more
       ∙ ap (putNth frame regs to) (pixels-join from mid to ram low more)
       ∙ sym (pixels-suc from to ram (omega arith)))
-
-  pub pixels-length : (from to : ℕ) (ram : List ℕ) → length (pixels frame regs from to ram) ≡ length ram
-  unfolding pixels
-  pixels-length from zero ram = refl
-  pixels-length from (suc to) ram =
-      split to from
-      (λ none. simp (lt-leb from to none))
-      (λ some. simp (le-leb from to some) (nth-length to _ ∙ pixels-length from to ram))
 
 -- ---- how many are done
 

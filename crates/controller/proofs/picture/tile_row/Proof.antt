@@ -6,7 +6,8 @@ use mathlib.Core.List.{List}
 use borrow.Author.Needs.{needs}
 use Rattle.controller.specs.Picture.{packed, pictureShade, lowByte, highByte}
 use Rattle.controller.proofs.Packed.{packed-none, packed-next, packed-room}
-use Rattle.controller.proofs.Pixels.{shade-small, shade-bound}
+use Rattle.sensor.proofs.Facts.{shade-small}
+use Rattle.controller.proofs.Pixels.{shade-bound}
 use Rattle.controller.proofs.picture.tile_row.Statement.{statement}
 use Rattle.controller.proofs.picture.tile_row.Tie as tie
 
