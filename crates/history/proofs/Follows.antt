@@ -1,0 +1,472 @@
+-- What the calls alone tell is what the state holds: the state follows the calls, call by call. Assumes nothing.
+use mathlib.Core.Path.{_≡_, refl, sym, ap, subst, _∙_}
+use mathlib.Core.Bool.{Bool, true, false, not, _&&_, and-false}
+use mathlib.Core.List.{List, [], _∷_}
+use Prim.Native.Nat.{ℕ, _+_, _-_, _%_, _<_, _≤_, min}
+use native.Mathlib.Nat.{add-zero}
+use native.Mathlib.Omega.{arith}
+use lib.Dec.{eqb, ltb}
+use lib.ListN.{length, set, length-set}
+use borrow.Author.Tests.{ne-eqb, eq-eqb}
+use Rattle.laws.specs.Pick.{pick}
+use Rattle.laws.proofs.Order.{split}
+use Rattle.sensor.specs.Taken.{exposureOf}
+use Rattle.laws.proofs.Pick.{pick-ind}
+use Rattle.controller.specs.declared.Controller.{Controller}
+use Rattle.controller.specs.Timing.{totalOf}
+use Rattle.controller.specs.State.{started, cantExist, resetState}
+use Rattle.controller.specs.Capture.{begun, moved, ended, Ticking, ticks, from}
+use Rattle.controller.specs.Capture as capture
+use Rattle.controller.specs.Bus.{Left, left, onCartridge, byteWritten, controlWritten, registerWritten, storeWritten, captureWritten, ramWritten, ramWritable, withBank, withRegister, withEnabled, withSelect, isStart, registersOn}
+use Rattle.controller.specs.Lent.{romAllowed, ramAllowed, frameAllowed}
+use Rattle.controller.specs.Outcome.{Outcome}
+use Rattle.controller.specs.Calls.{readMeans, writeMeans, tickMeans}
+use Rattle.controller.proofs.Lent.{frame-lent, both-left, both-right}
+use Rattle.controller.proofs.Exists.{before-total}
+use Rattle.controller.proofs.Ticks.{idle, going, over}
+use Rattle.controller.proofs.Pixels.{pixels-length}
+use Rattle.controller.proofs.Range.{pixels-none}
+use Rattle.controller.specs.Bulk.{pixels, doneBy}
+use Rattle.history.specs.History.{Call, reset, read, write, tick, inspect, World, fresh, leftBy, leaves, answers, refusalIn, countIn, after}
+use Rattle.history.specs.Track.{lands, landsAt, byteIn, Track, atReset, writeAccepted, tickAccepted, cyclesOf, runsIn, ends, enabling, selecting, storing, beginning, running, ending, controlled, registered, written, next, follow, told, seen, Told}
+use Rattle.history.proofs.Picks.{paired, by-test, not-both}
+use Rattle.history.proofs.Reachable.{Sound, reset-sound, call-sound}
+
+-- ---- a write
+
+abbrev worldOf : Left → World
+worldOf l = record { state = l .state; ram = l .ram; store = l .store }
+
+-- what is not refused is done, and what is refused changes nothing
+nest : (p q r : Bool) (x a b c : Outcome) (w : World) → leftBy a ≡ w → leftBy b ≡ w → leftBy c ≡ w
+    → leftBy (pick p (pick q (pick r x a) b) c) ≡ pick (p && (q && r)) (leftBy x) w
+nest true true true x a b c w e f g = refl
+nest true true false x a b c w e f g = e
+nest true false r x a b c w e f g = f
+nest false q r x a b c w e f g = g
+
+pub write-leaves : (w : World) (image : List ℕ) (a v : ℕ) → cantExist (w .state) ≡ false
+    → leaves w (write image a v)
+    ≡ pick (ramAllowed (length (w .ram)) && ((frameAllowed (length (w .store)) && frameAllowed (length image)) && onCartridge a))
+    (worldOf (byteWritten (w .state) (w .ram) (w .store) image a v))
+    w
+unfolding leaves writeMeans
+write-leaves w image a v e =
+    rw e
+    (nest (ramAllowed (length (w .ram))) (frameAllowed (length (w .store)) && frameAllowed (length image)) (onCartridge a) _ _ _ _ w refl refl refl)
+
+-- a write leaves the RAM's length
+pub ram-length : (c : Controller) (ram : List ℕ) (a v : ℕ) → length (ramWritten c ram a v) ≡ length ram
+unfolding ramWritten
+ram-length c ram a v = pick-ind (λ (r : List ℕ). length r ≡ length ram) (ramWritable c) (λ _. length-set ram _ v) (λ _. refl)
+
+-- two frames of the size allowed
+sizes : (store image : List ℕ) → (frameAllowed (length store) && frameAllowed (length image)) ≡ true → length store ≡ length image
+sizes store image h =
+    frame-lent (length store) (both-left (frameAllowed (length store)) (frameAllowed (length image)) h)
+    ∙ sym (frame-lent (length image) (both-right (frameAllowed (length store)) (frameAllowed (length image)) h))
+
+-- a refusal number is given to just what is not done
+numbered : (p q r : Bool) (x a b c : Outcome) → eqb (x .number) 0 ≡ true → eqb (a .number) 0 ≡ false → eqb (b .number) 0 ≡ false → eqb (c .number) 0 ≡ false
+    → eqb (pick p (pick q (pick r x a) b) c .number) 0 ≡ (p && (q && r))
+numbered true true true x a b c d e f g = d
+numbered true true false x a b c d e f g = e
+numbered true false r x a b c d e f g = f
+numbered false q r x a b c d e f g = g
+
+-- ---- a tick
+
+tick-numbered : (p q : Bool) (x a b : Outcome) → eqb (x .number) 0 ≡ true → eqb (a .number) 0 ≡ false → eqb (b .number) 0 ≡ false
+    → eqb (pick p (pick q x a) b .number) 0 ≡ (p && q)
+tick-numbered true true x a b d e f = d
+tick-numbered true false x a b d e f = e
+tick-numbered false q x a b d e f = f
+
+-- the paper's figure is the controller's
+pub cycles-total : (regs : List ℕ) → cyclesOf regs ≡ totalOf regs
+unfolding cyclesOf totalOf exposureOf
+cycles-total regs = refl
+
+tick-nest : (p q : Bool) (x a b : Outcome) (w : World) → leftBy a ≡ w → leftBy b ≡ w → leftBy (pick p (pick q x a) b) ≡ pick (p && q) (leftBy x) w
+tick-nest true true x a b w e f = refl
+tick-nest true false x a b w e f = e
+tick-nest false q x a b w e f = f
+
+tick-value : (p q : Bool) (x a b : Outcome) → a .value ≡ 0 → b .value ≡ 0 → pick p (pick q x a) b .value ≡ pick (p && q) (x .value) 0
+tick-value true true x a b e f = refl
+tick-value true false x a b e f = e
+tick-value false q x a b e f = f
+
+module _ (w : World) (n : ℕ) (exists : cantExist (w .state) ≡ false) where
+  abbrev lent : Bool
+  lent = ramAllowed (length (w .ram)) && frameAllowed (length (w .store))
+
+  abbrev moving : Ticking
+  moving = ticks (w .store) n (from (w .state) (w .ram))
+
+  pub tick-leaves : leaves w (tick n) ≡ pick lent (record { state = moving .state; ram = moving .ram; store = w .store }) w
+  unfolding leaves tickMeans
+  tick-leaves = rw exists (tick-nest (ramAllowed (length (w .ram))) (frameAllowed (length (w .store))) _ _ _ w refl refl)
+
+  pub tick-count : countIn (answers w (tick n)) ≡ pick lent (moving .ran) 0
+  unfolding answers tickMeans
+  tick-count = rw exists (tick-value (ramAllowed (length (w .ram))) (frameAllowed (length (w .store))) _ _ _ refl refl)
+
+-- ---- call by call
+
+module _ (w : World) (im : List ℕ) (own : w .state .held ≡ true → w .store ≡ im) where
+  abbrev c : Controller
+  c = w .state
+
+  abbrev Kept : Track → Controller → Type 0
+  Kept t c′ = Told t (record { state = c′; ram = w .ram; store = w .store })
+
+  stays : Told (seen w im) w
+  stays = record { same = refl; own = own }
+
+  enabled-told : (b : Bool) → Kept (enabling (seen w im) b) (withEnabled c b)
+  unfolding enabling withEnabled
+  enabled-told b = record { same = refl; own = own }
+
+  bank-told : (n : ℕ) → Kept (seen w im) (withBank c n)
+  unfolding withBank
+  bank-told n = record { same = refl; own = own }
+
+  select-told : (n : ℕ) → Kept (selecting (seen w im) n) (withSelect c n)
+  unfolding selecting withSelect
+  select-told n = record { same = refl; own = own }
+
+  stored-told : (i v : ℕ) → Kept (storing (seen w im) (set (c .registers) i v)) (withRegister c i v)
+  unfolding storing withRegister
+  stored-told i v = record { same = refl; own = own }
+
+  control-told : (a v : ℕ) → Kept (controlled (seen w im) a v) (controlWritten c a v)
+  unfolding controlled controlWritten
+  control-told a v =
+      paired Kept (ltb a 0x2000)
+      (λ _. paired Kept (eqb v 0x0A) (λ _. enabled-told true) (λ _. paired Kept (eqb v 0x00) (λ _. enabled-told false) (λ _. stays)))
+      (λ _. paired Kept (ltb a 0x4000) (λ _. bank-told (v % 64)) (λ _. paired Kept (ltb a 0x6000) (λ _. select-told (v % 32)) (λ _. stays)))
+
+  -- a start, and a write that is none
+  parted : (p q r : Bool) (x y z u : Controller) (ram image store : List ℕ)
+      → left (pick p (pick q x y) (pick r z u)) ram (pick (p && q) image store)
+      ≡ pick p (pick q (left x ram image) (left y ram store)) (pick r (left z ram store) (left u ram store))
+  parted true true r x y z u ram image store = refl
+  parted true false r x y z u ram image store = refl
+  parted false q true x y z u ram image store = refl
+  parted false q false x y z u ram image store = refl
+
+  begun-told : (image : List ℕ) (v : ℕ) → length (w .store) ≡ length image
+      → Told (beginning (seen w im) image (set (c .registers) 0 v)) (record { state = begun c v; ram = w .ram; store = image })
+  unfolding beginning begun
+  begun-told image v e = record { same = rw e; own = λ _. refl }
+
+  abbrev LeftTold : Track → Left → Type 0
+  LeftTold t l = Told t (worldOf l)
+
+  registers-told : (image : List ℕ) (i v : ℕ) → length (w .store) ≡ length image
+      → LeftTold (registered (seen w im) image i v) (left (registerWritten c i v) (w .ram) (storeWritten c (w .store) image i v))
+  unfolding registered registerWritten captureWritten storeWritten isStart
+  registers-told image i v e =
+      subst (LeftTold (registered (seen w im) image i v))
+      (sym (parted (eqb i 0) (eqb (v % 2) 1 && not (c .held)) (ltb i 54) (begun c (v % 8)) (withRegister c 0 (v % 8)) (withRegister c i v) c (w .ram) image (w .store)))
+      (paired LeftTold (eqb i 0)
+      (λ _. paired LeftTold (eqb (v % 2) 1 && not (c .held)) (λ _. begun-told image (v % 8) e) (λ _. stored-told 0 (v % 8)))
+      (λ _. paired LeftTold (ltb i 54) (λ _. stored-told i v) (λ _. stays)))
+
+  ram-told : (a v : ℕ) → Told (seen w im) (record { state = c; ram = ramWritten c (w .ram) a v; store = w .store })
+  ram-told a v = record { same = rw (ram-length c (w .ram) a v); own = own }
+
+  written-told : (image : List ℕ) (a v : ℕ) → length (w .store) ≡ length image
+      → LeftTold (written (seen w im) image a v) (byteWritten c (w .ram) (w .store) image a v)
+  unfolding written byteWritten
+  written-told image a v e =
+      paired LeftTold (ltb a 0x8000)
+      (λ _. control-told a v)
+      (λ _. paired LeftTold (registersOn c) (λ _. registers-told image (a % 128) v e) (λ _. ram-told a v))
+
+  abbrev frames : List ℕ → Bool
+  frames image = frameAllowed (length (w .store)) && frameAllowed (length image)
+
+  module _ (exists : cantExist c ≡ false) where
+    write-told : (image : List ℕ) (a v : ℕ) → Told (next (seen w im) (write image a v)) (leaves w (write image a v))
+    unfolding next writeAccepted
+    write-told image a v =
+        rw (write-leaves w image a v exists)
+        (paired Told (ramAllowed (length (w .ram)) && (frames image && onCartridge a))
+        (λ ok. written-told image a v (sizes (w .store) image (both-left (frames image) (onCartridge a) (both-right (ramAllowed (length (w .ram))) (frames image && onCartridge a) ok))))
+        (λ _. stays))
+
+    -- what a tick comes to, by the calls alone
+    pub record Ticked (n : ℕ) : Type 0 where
+      pub told : Told (next (seen w im) (tick n)) (leaves w (tick n))
+      pub count : countIn (answers w (tick n)) ≡ runsIn (seen w im) (tick n)
+      pub ram : leaves w (tick n) .ram ≡ pixels (w .store) (c .taken) (doneBy (c .taken) (c .elapsed .0)) (doneBy (c .taken) (c .elapsed .0 + runsIn (seen w im) (tick n))) (w .ram)
+
+    module _ (n : ℕ) where
+      abbrev e : ℕ
+      e = c .elapsed .0
+
+      abbrev total : ℕ
+      total = totalOf (c .taken)
+
+      abbrev runs : ℕ
+      runs = runsIn (seen w im) (tick n)
+
+      -- a capture held is not at its end
+      before-end : (c .held && eqb e total) ≡ false
+      before-end =
+          by-test (c .held)
+          (λ h. simp h (ne-eqb e total (λ z. omega (arith, before-total c exists h))))
+          (λ h. simp h)
+
+      -- what is told after the tick: nothing new, so many cycles more, the end
+      next-still : runs ≡ 0 → next (seen w im) (tick n) ≡ seen w im
+      unfolding next ends running
+      next-still z = rw (z, add-zero, cycles-total (c .taken), before-end)
+
+      next-on : runs ≡ n → e + n < total → next (seen w im) (tick n) ≡ running (seen w im) (e + n)
+      unfolding next ends
+      next-on z l = rw (z, cycles-total (c .taken), ne-eqb (e + n) total (omega arith), and-false)
+
+      next-over : c .held ≡ true → runs ≡ total - e → e < total → next (seen w im) (tick n) ≡ ending (seen w im)
+      unfolding next ends
+      next-over h z l = rw (z, h, cycles-total (c .taken), eq-eqb (e + (total - e)) total (omega arith))
+
+      -- no cycle runs: all stays
+      still : runs ≡ 0 → leaves w (tick n) ≡ w → countIn (answers w (tick n)) ≡ 0 → Ticked n
+      still z l k = record {
+        told = rw (next-still z, l) stays;
+        count = k ∙ sym z;
+        ram = rw (z, add-zero, l, pixels-none (w .store) (c .taken) (doneBy (c .taken) e) (w .ram));
+      }
+
+      -- a tick that is refused
+      refused : lent w n exists ≡ false → Ticked n
+      unfolding runsIn tickAccepted
+      refused off = still (rw off) (tick-leaves w n exists ∙ rw off) (tick-count w n exists ∙ rw off)
+
+      -- the capture moved on, and ended, with any RAM of that length
+      on-told : (ram : List ℕ) → length ram ≡ length (w .ram) → Told (running (seen w im) (e + n)) (record { state = moved c (e + n); ram = ram; store = w .store })
+      unfolding running moved
+      on-told ram l = record { same = rw l; own = own }
+
+      over-told : (ram : List ℕ) → length ram ≡ length (w .ram) → Told (ending (seen w im)) (record { state = ended c; ram = ram; store = w .store })
+      unfolding ending ended
+      over-told ram l = record { same = rw l; own = λ h. not-both h refl }
+
+      module _ (ok : lent w n exists ≡ true) where
+        -- a tick while no capture runs
+        resting : capture.running c ≡ false → Ticked n
+        unfolding runsIn tickAccepted
+        resting off =
+            still (rw (ok, off))
+            (tick-leaves w n exists ∙ rw (ok, idle (w .store) (from c (w .ram)) n off))
+            (tick-count w n exists ∙ rw (ok, idle (w .store) (from c (w .ram)) n off))
+
+        module _ (on : capture.running c ≡ true) where
+          runs-min : runs ≡ min n (total - e)
+          unfolding runsIn tickAccepted
+          runs-min = rw (ok, on, cycles-total (c .taken))
+
+          -- a tick within a capture
+          onward : e + n < total → Ticked n
+          onward l =
+              let z : runs ≡ n = runs-min ∙ omega arith in
+              let g = going (w .store) c (w .ram) on n l in
+              record {
+                told = rw (next-on z l, tick-leaves w n exists, ok, g) (on-told _ (pixels-length (w .store) (c .taken) _ _ (w .ram)));
+                count = tick-count w n exists ∙ rw (ok, g, z);
+                ram = rw (tick-leaves w n exists, ok, g, z);
+              }
+
+          -- a tick in which it ends
+          ending-told : e < total → total ≤ e + n → Ticked n
+          ending-told b l =
+              let z : runs ≡ total - e = runs-min ∙ omega arith in
+              let whole : total ≡ e + (total - e) = omega arith in
+              let g = over (w .store) c (w .ram) on n b (omega arith) in
+              record {
+                told = rw (next-over (both-left (c .held) (started (c .registers)) on) z b, tick-leaves w n exists, ok, g) (over-told _ (pixels-length (w .store) (c .taken) _ _ (w .ram)));
+                count = tick-count w n exists ∙ rw (ok, g, z);
+                ram = rw (tick-leaves w n exists, ok, g, z) (ap (λ (k : ℕ). pixels (w .store) (c .taken) (doneBy (c .taken) e) (doneBy (c .taken) k) (w .ram)) whole);
+              }
+
+      pub tick-told : Ticked n
+      tick-told =
+          by-test (lent w n exists)
+          (λ ok.
+          by-test (capture.running c)
+          (λ on.
+          split (e + n) total
+          (λ l. onward ok on l)
+          (λ l. ending-told ok on (before-total c exists (both-left (c .held) (started (c .registers)) on)) l))
+          (λ off. resting ok off))
+          (λ off. refused off)
+
+    -- a read changes nothing
+    read-leaves : (rom : List ℕ) (a : ℕ) → leaves w (read rom a) ≡ w
+    unfolding leaves readMeans
+    read-leaves rom a =
+        pick-ind Same (cantExist c) (λ _. refl)
+        (λ _.
+        pick-ind Same (romAllowed (length rom))
+        (λ _. pick-ind Same (ramAllowed (length (w .ram))) (λ _. pick-ind Same (onCartridge a) (λ _. refl) (λ _. refl)) (λ _. refl))
+        (λ _. refl))
+      where
+        Same : Outcome → Type 0
+        Same o = _≡_ {A = World} (record { state = o .state; ram = o .ram; store = w .store }) w
+
+    reset-told : Told (next (seen w im) reset) (leaves w reset)
+    unfolding next leaves atReset resetState
+    reset-told = record { same = refl; own = λ h. not-both h refl }
+
+    read-told : (rom : List ℕ) (a : ℕ) → Told (next (seen w im) (read rom a)) (leaves w (read rom a))
+    unfolding next
+    read-told rom a = rw (read-leaves rom a) stays
+
+    inspect-told : Told (next (seen w im) inspect) (leaves w inspect)
+    unfolding next leaves
+    inspect-told = stays
+
+    -- what is told after any call is what the world then shows
+    call-told : (k : Call) → Told (next (seen w im) k) (leaves w k)
+    call-told reset = reset-told
+    call-told (read rom a) = read-told rom a
+    call-told (write image a v) = write-told image a v
+    call-told (tick n) = tick-told n .told
+    call-told inspect = inspect-told
+
+    -- the count returned is the count told
+    call-count : (k : Call) → countIn (answers w k) ≡ runsIn (seen w im) k
+    unfolding answers runsIn
+    call-count reset = refl
+    call-count (read rom a) = refl
+    call-count (write image a v) = refl
+    call-count (tick n) = tick-told n .count
+    call-count inspect = refl
+
+    -- what is told accepted is answered with no refusal
+    write-number : (image : List ℕ) (a v : ℕ) → eqb (refusalIn (answers w (write image a v))) 0 ≡ writeAccepted (seen w im) image a
+    unfolding answers writeMeans writeAccepted
+    write-number image a v = rw exists (numbered (ramAllowed (length (w .ram))) (frames image) (onCartridge a) _ _ _ _ refl refl refl refl)
+
+    tick-number : (n : ℕ) → eqb (refusalIn (answers w (tick n))) 0 ≡ tickAccepted (seen w im)
+    unfolding answers tickMeans tickAccepted
+    tick-number n = rw exists (tick-numbered (ramAllowed (length (w .ram))) (frameAllowed (length (w .store))) _ _ _ refl refl refl)
+
+    -- ---- the RAM
+
+    -- a call's pixels, by the calls alone
+    abbrev put : Call → List ℕ
+    put k = pixels (w .store) (c .taken) (doneBy (c .taken) (c .elapsed .0)) (doneBy (c .taken) (c .elapsed .0 + runsIn (seen w im) k)) (w .ram)
+
+    none-put : (k : Call) → runsIn (seen w im) k ≡ 0 → put k ≡ w .ram
+    none-put k z = rw (z, add-zero, pixels-none (w .store) (c .taken) (doneBy (c .taken) (c .elapsed .0)) (w .ram))
+
+    landed : (ok low regs on free : Bool) (x y : Controller) (ram store′ r : List ℕ) (u : World) → u .ram ≡ ram
+        → pick ok (worldOf (pick low (left x ram (w .store)) (pick regs (left y ram store′) (left c (pick (pick on false free) r ram) (w .store))))) u .ram
+        ≡ pick (ok && (not low && (not regs && (not on && free)))) r ram
+    landed false low regs on free x y ram store′ r u e = e
+    landed true true regs on free x y ram store′ r u e = refl
+    landed true false true on free x y ram store′ r u e = refl
+    landed true false false true free x y ram store′ r u e = refl
+    landed true false false false free x y ram store′ r u e = refl
+
+    write-ram : (image : List ℕ) (a v : ℕ)
+        → leaves w (write image a v) .ram ≡ pick (lands (seen w im) (write image a v)) (set (w .ram) (landsAt (seen w im) (write image a v)) v) (w .ram)
+    unfolding lands landsAt writeAccepted byteWritten ramWritten
+    write-ram image a v =
+        ap (λ (u : World). u .ram) (write-leaves w image a v exists)
+        ∙ landed (ramAllowed (length (w .ram)) && (frames image && onCartridge a)) (ltb a 0x8000) (registersOn c) (started (c .registers)) (c .enabled) _ _ (w .ram) _ _ w refl
+
+    -- a write lands, or the tick's pixels are put
+    call-ram : (k : Call) → leaves w k .ram ≡ pick (lands (seen w im) k) (set (w .ram) (landsAt (seen w im) k) (byteIn k)) (put k)
+    unfolding leaves lands runsIn byteIn
+    call-ram reset = sym (none-put reset refl)
+    call-ram (read rom a) = ap (λ (u : World). u .ram) (read-leaves rom a) ∙ sym (none-put (read rom a) refl)
+    call-ram (write image a v) =
+        write-ram image a v
+        ∙ ap (pick (lands (seen w im) (write image a v)) (set (w .ram) (landsAt (seen w im) (write image a v)) v)) (sym (none-put (write image a v) refl))
+    call-ram (tick n) = tick-told n .ram
+    call-ram inspect = sym (none-put inspect refl)
+
+-- ---- along a history
+
+-- a moment: what is told is what the world shows, and the state can exist
+pub record Moment (t : Track) (w : World) : Type 0 where
+  pub told : Told t w
+  pub sound : Sound (w .state)
+
+pub at-reset : (ram store : List ℕ) → Moment (atReset (length ram) (length store)) (fresh ram store)
+unfolding atReset resetState
+at-reset ram store = record { told = record { same = refl; own = λ h. not-both h refl }; sound = reset-sound }
+
+module _ (t : Track) (w : World) (m : Moment t w) (k : Call) where
+  abbrev own : w .state .held ≡ true → w .store ≡ t .image
+  own = m .told .own
+
+  abbrev exists : cantExist (w .state) ≡ false
+  exists = m .sound .exists
+
+  pub moment-next : Moment (next t k) (leaves w k)
+  moment-next = record {
+    told = subst (λ (u : Track). Told (next u k) (leaves w k)) (sym (m .told .same)) (call-told w (t .image) own exists k);
+    sound = call-sound w k (m .sound);
+  }
+
+  -- the count returned
+  pub count-next : countIn (answers w k) ≡ runsIn t k
+  count-next = subst (λ (u : Track). countIn (answers w k) ≡ runsIn u k) (sym (m .told .same)) (call-count w (t .image) own exists k)
+
+  -- the RAM left
+  pub ram-next : leaves w k .ram ≡ pick (lands t k) (set (w .ram) (landsAt t k) (byteIn k)) (pixels (w .store) (t .taken) (doneBy (t .taken) (t .ran)) (doneBy (t .taken) (t .ran + runsIn t k)) (w .ram))
+  ram-next =
+      subst
+      (λ (u : Track).
+      leaves w k .ram
+      ≡ pick (lands u k) (set (w .ram) (landsAt u k) (byteIn k)) (pixels (w .store) (u .taken) (doneBy (u .taken) (u .ran)) (doneBy (u .taken) (u .ran + runsIn u k)) (w .ram)))
+      (sym (m .told .same))
+      (call-ram w (t .image) own exists k)
+
+-- a capture held has cycles left
+pub cycles-left : (t : Track) (w : World) → Moment t w → t .held ≡ true → t .ran < cyclesOf (t .taken)
+cycles-left t w m =
+    subst (λ (u : Track). u .held ≡ true → u .ran < cyclesOf (u .taken)) (sym (m .told .same))
+    (λ h. rw (cycles-total (w .state .taken)) (before-total (w .state) (m .sound .exists) h))
+
+pub moment-after : (cs : List Call) (t : Track) (w : World) → Moment t w → Moment (follow t cs) (after w cs)
+unfolding follow after
+moment-after [] t w m = m
+moment-after (k ∷ cs) t w m = moment-after cs (next t k) (leaves w k) (moment-next t w m k)
+
+-- ---- from reset, over any RAM and frame store
+
+module _ (ram store : List ℕ) (cs : List Call) where
+  abbrev t : Track
+  t = told ram store cs
+
+  abbrev w : World
+  w = after (fresh ram store) cs
+
+  m : Moment t w
+  m = moment-after cs _ _ (at-reset ram store)
+
+  -- Told: what any calls alone tell is true of what they leave
+  pub told-true : Told (told ram store cs) (after (fresh ram store) cs)
+  told-true = m .told
+
+  -- Counted: the count that the next call returns is its running cycles, as the calls alone tell them
+  pub count-true : (k : Call) → countIn (answers (after (fresh ram store) cs) k) ≡ runsIn (told ram store cs) k
+  count-true k = count-next t w m k
+
+  -- Accepted: the next write or tick is answered with no refusal just where the calls alone tell so
+  pub write-true : (image : List ℕ) (a v : ℕ) → eqb (refusalIn (answers (after (fresh ram store) cs) (write image a v))) 0 ≡ writeAccepted (told ram store cs) image a
+  write-true image a v =
+      subst (λ (u : Track). eqb (refusalIn (answers w (write image a v))) 0 ≡ writeAccepted u image a) (sym (m .told .same))
+      (write-number w (t .image) (m .told .own) (m .sound .exists) image a v)
+
+  pub tick-true : (n : ℕ) → eqb (refusalIn (answers (after (fresh ram store) cs) (tick n))) 0 ≡ tickAccepted (told ram store cs)
+  tick-true n =
+      subst (λ (u : Track). eqb (refusalIn (answers w (tick n))) 0 ≡ tickAccepted u) (sym (m .told .same))
+      (tick-number w (t .image) (m .told .own) (m .sound .exists) n)

@@ -1,0 +1,12 @@
+-- Theorems on histories.
+pub mod Picks
+pub mod Exists
+pub mod Reachable
+pub mod Follows
+pub mod Outside
+pub mod Goes
+pub mod Cycles
+pub mod OwnFrame
+pub mod HalfPicture
+pub mod Picture
+pub mod Worked

@@ -1,0 +1,70 @@
+-- While a capture is held, frame store and taken registers are those of its start. Assumes nothing.
+use mathlib.Core.Path.{_≡_, refl, sym, ap, _∙_}
+use mathlib.Core.Bool.{true, false}
+use mathlib.Core.List.{List, [], _∷_, _++_}
+use Prim.Native.Nat.{ℕ}
+use lib.ListN.{length}
+use Rattle.history.specs.History.{Call, fresh, after, counted}
+use Rattle.history.specs.Track.{Track, atReset, ends, starts, imageIn, registersAt, next, follow, told}
+use Rattle.history.specs.Since.{isReset, goesOn, Held, Whole, Begun, Own}
+use Rattle.history.proofs.Picks.{by-test, not-both}
+use Rattle.history.proofs.Follows.{moment-next, told-true}
+use Rattle.history.proofs.Goes.{was-held, end-next, moment-now, on, same-world, now-last, world-last, moment-last, whole-world}
+
+-- Own frame: any calls, a start, any calls through which its capture goes on: the frame store is the image lent at the start, the taken
+-- registers are the registers at the start, and elapsed is the counts returned since, whatever was lent or written meanwhile
+pub own-frame : (ram store : List ℕ) (before : List Call) (start : Call) (between : List Call)
+    → Held (told ram store before) start between
+    → Own (imageIn start) (registersAt (told ram store before) start) (counted (after (fresh ram store) before) (start ∷ between)) (after (fresh ram store) (before ++ (start ∷ between)))
+own-frame ram store before start between h =
+    let m = moment-now ram store before start between h in
+    let o = on ram store before start between h in
+    let s = m .told .same in
+    let held = sym (ap (λ (u : Track). u .held) s) ∙ o .held in
+    rw (same-world ram store before start between h)
+    (record {
+      held = held;
+      store = m .told .own held ∙ o .image;
+      taken = sym (ap (λ (u : Track). u .taken) s) ∙ o .taken;
+      elapsed = sym (ap (λ (u : Track). u .ran) s) ∙ o .ran;
+    })
+
+-- At its end it is held no more
+pub at-end : (ram store : List ℕ) (before : List Call) (start : Call) (between : List Call) (last : Call)
+    → Whole (told ram store before) start between last
+    → after (fresh ram store) (before ++ (start ∷ (between ++ (last ∷ [])))) .state .held ≡ false
+at-end ram store before start between last h =
+    let t = now-last ram store before start between last h in
+    let w = world-last ram store before start between last h in
+    let m = moment-next t w (moment-last ram store before start between last h) last in
+    rw (whole-world ram store before start between last h) (sym (ap (λ (u : Track). u .held) (m .told .same)) ∙ end-next t last (h .over))
+
+-- ---- and every capture held has such a start
+
+goes-first : (t : Track) (k : Call) (cs : List Call) → isReset k ≡ false → ends t k ≡ false → goesOn (next t k) cs ≡ true → goesOn t (k ∷ cs) ≡ true
+unfolding goesOn
+goes-first t k cs r e g = rw (r, e) g
+
+-- a capture held at the end of a list of calls was held all through, or one of them is its start
+since {ℓ} : {X : Type ℓ} (cs : List Call) (t : Track) → follow t cs .held ≡ true
+    → (t .held ≡ true → goesOn t cs ≡ true → X)
+    → ((before : List Call) (start : Call) (between : List Call) → cs ≡ before ++ (start ∷ between) → Held (follow t before) start between → X)
+    → X
+unfolding follow goesOn
+since [] t h f g = f h refl
+since (k ∷ cs) t h f g =
+    since cs (next t k) h
+    (λ held goes.
+    by-test (starts t k)
+    (λ s. g [] k cs refl (record { begins = s; goes = goes }))
+    (λ s. let p = was-held t k s held in f (p .0) (goes-first t k cs (p .1) (p .2) goes)))
+    (λ before start between e p. g (k ∷ before) start between (ap (λ (l : List Call). k ∷ l) e) p)
+
+-- One start: whenever a capture is held, the calls hold its start, and it went on ever since; so by `own-frame` no plate is of two frames
+pub one-start : (ram store : List ℕ) (cs : List Call) → after (fresh ram store) cs .state .held ≡ true → Begun ram store cs
+unfolding atReset
+one-start ram store cs h =
+    since cs (atReset (length ram) (length store))
+    (ap (λ (u : Track). u .held) (told-true ram store cs .same) ∙ h)
+    (λ held _. not-both held refl)
+    (λ before start between e p. record { before = before; start = start; between = between; whole = e; held = p })

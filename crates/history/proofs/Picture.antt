@@ -1,0 +1,214 @@
+-- A capture that ended left the picture of its start in the area, if no bus write landed there since. Assumes nothing.
+use mathlib.Core.Path.{_≡_, refl, sym, ap, _∙_}
+use mathlib.Core.Bool.{true, false, not, _&&_}
+use mathlib.Core.List.{List, [], _∷_, _++_}
+use Prim.Native.Nat.{ℕ, _+_, _*_, _/_, _%_, _<_, _≤_}
+use native.Mathlib.Nat.{add-zero}
+use native.Mathlib.Omega.{arith}
+use lib.Dec.{eqb, ltb}
+use lib.ListN.{length, getD, set, drop, length-take, length-drop}
+use lib.Seq.{getD-set-same, getD-set-other, set-out, getD-take, getD-drop, ext-getD}
+use borrow.Author.Tests.{eqb-true, eqb-false, ltb-true, lt-ltb, le-leb, not-true}
+use Rattle.laws.proofs.Order.{split}
+use Rattle.controller.specs.Lent.{ramAllowed}
+use Rattle.controller.specs.Tiles.{place, shadeIn, areaOf, Bytes}
+use Rattle.controller.specs.Picture.{pictureShade, pictureOf}
+use Rattle.controller.specs.Bulk.{doneBy}
+use Rattle.controller.proofs.Lent.{both-left, both-right, ram-lent}
+use Rattle.controller.proofs.Range.{pixels-none, done-all, done-most}
+use Rattle.controller.proofs.Pixels.{pixels-bytes}
+use Rattle.controller.proofs.Area.{area-whole}
+use Rattle.history.specs.History.{Call, reset, read, write, tick, inspect, World, fresh, leaves, after, counted}
+use Rattle.history.specs.Track.{Track, tickAccepted, runsIn, starts, ends, imageIn, registersAt, lands, landsAt, byteIn, next, told}
+use Rattle.history.specs.Since.{Whole, inArea, ofPixel, clear, noStart, bytesIn}
+use Rattle.history.proofs.Picks.{by-test, not-both}
+use Rattle.history.proofs.Follows.{Moment, at-reset, moment-next, moment-after, ram-next, cycles-total}
+use Rattle.history.proofs.Outside.{ram-size, size-after, same-size}
+use Rattle.history.proofs.Goes.{Of, rests-next, end-count, on, same-world, now-last, world-last, moment-last, whole-world}
+use Rattle.history.proofs.OwnFrame.{at-end}
+use Rattle.history.proofs.HalfPicture.{shown-next, shown-now, first-clear, long-ram}
+
+-- ---- bytes stay bytes
+
+set-bytes : (l : List ℕ) (p v : ℕ) → Bytes l → v < 256 → Bytes (set l p v)
+set-bytes l p v b small i =
+    split p (length l)
+    (λ inside.
+    by-test (eqb i p)
+    (λ here. let e : i ≡ p = eqb-true i p here in rw (e, getD-set-same l p v 0 inside) small)
+    (λ other. rw (getD-set-other l p i v 0 (eqb-false i p other)) (b i)))
+    (λ out. rw (set-out l p v out) (b i))
+
+-- a RAM that is not allowed runs no cycle
+short-runs : (t : Track) (k : Call) → ramAllowed (t .ramSize) ≡ false → runsIn t k ≡ 0
+unfolding runsIn tickAccepted
+short-runs t reset h = refl
+short-runs t (read rom a) h = refl
+short-runs t (write image a v) h = refl
+short-runs t (tick n) h = rw h
+short-runs t inspect h = refl
+
+bytes-next : (t : Track) (w : World) (m : Moment t w) (k : Call) → byteIn k < 256 → Bytes (w .ram) → Bytes (leaves w k .ram)
+bytes-next t w m k small b =
+    by-test (lands t k)
+    (λ on. rw (ram-next t w m k, on) (set-bytes (w .ram) (landsAt t k) (byteIn k) b small))
+    (λ off.
+    by-test (ramAllowed (t .ramSize))
+    (λ ok. rw (ram-next t w m k, off) (pixels-bytes (w .store) (t .taken) _ _ (w .ram) (done-most (t .taken) _) (rw (ram-size t w m k) (ram-lent (t .ramSize) ok .least)) b))
+    (λ bad. rw (ram-next t w m k, off, short-runs t k bad, add-zero (t .ran), pixels-none (w .store) (t .taken) (doneBy (t .taken) (t .ran)) (w .ram)) b))
+
+bytes-after : (cs : List Call) (t : Track) (w : World) → Moment t w → bytesIn cs ≡ true → Bytes (w .ram) → Bytes (after w cs .ram)
+unfolding after bytesIn
+bytes-after [] t w m s b = b
+bytes-after (k ∷ cs) t w m s b =
+    bytes-after cs (next t k) (leaves w k) (moment-next t w m k) (both-right (ltb (byteIn k) 256) (bytesIn cs) s)
+    (bytes-next t w m k (ltb-true (byteIn k) 256 (both-left (ltb (byteIn k) 256) (bytesIn cs) s)) b)
+
+-- ---- a pixel's bytes stand in the area
+
+within : (j p : ℕ) → j < 14336 → ofPixel j p ≡ true → inArea p ≡ true
+unfolding ofPixel inArea
+within j p most h =
+    let q = place (j % 128) (j / 128) in
+    by-test (eqb p q)
+    (λ here. let e : p ≡ q = eqb-true p q here in rw (le-leb 0x100 p (omega arith)) (le-leb p 0xEFF (omega arith)))
+    (λ other. let e : p ≡ q + 1 = eqb-true p (q + 1) (rw other at h) in rw (le-leb 0x100 p (omega arith)) (le-leb p 0xEFF (omega arith)))
+
+-- so where no write landed in the area, none landed in a pixel
+clear-pixel : (j : ℕ) → j < 14336 → (cs : List Call) (t : Track) → clear inArea t cs ≡ true → clear (ofPixel j) t cs ≡ true
+unfolding clear
+clear-pixel j most [] t c = refl
+clear-pixel j most (k ∷ cs) t c =
+    let f = first-clear inArea t k cs c in
+    let out : (lands t k && ofPixel j (landsAt t k)) ≡ false =
+    by-test (lands t k)
+    (λ on.
+    by-test (ofPixel j (landsAt t k))
+    (λ in-pixel. not-both (within j (landsAt t k) most in-pixel) (rw on at (f .0)))
+    (λ far. rw (on, far)))
+    (λ off. rw off) in
+    rw out (clear-pixel j most cs (next t k) (f .1))
+
+-- ---- the end
+
+-- the call in which a capture ends is a tick
+ends-lands : (t : Track) (k : Call) → ends t k ≡ true → lands t k ≡ false
+unfolding ends lands
+ends-lands t reset h = refl
+ends-lands t (read rom a) h = refl
+ends-lands t (write image a v) h = not-both h refl
+ends-lands t (tick n) h = refl
+ends-lands t inspect h = refl
+
+module _ (ram store : List ℕ) (before : List Call) (start : Call) (between : List Call) (last : Call) (h : Whole (told ram store before) start between last) where
+  abbrev t₀ : Track
+  t₀ = told ram store before
+
+  abbrev w₀ : World
+  w₀ = after (fresh ram store) before
+
+  abbrev regs : List ℕ
+  regs = registersAt t₀ start
+
+  abbrev t : Track
+  t = now-last ram store before start between last h
+
+  abbrev w : World
+  w = world-last ram store before start between last h
+
+  m : Moment t w
+  m = moment-last ram store before start between last h
+
+  -- all its pixels are done
+  abbrev n : ℕ
+  n = counted w₀ (start ∷ between)
+
+  o : Of (imageIn start) regs n t
+  o = on ram store before start between (h .held)
+
+  all-done : doneBy regs (n + runsIn t last) ≡ 14336
+  all-done = rw (← o .ran, end-count t last (h .over) .1, o .taken, cycles-total regs) (done-all regs)
+
+  long : 8192 ≤ length (w .ram)
+  long = rw (← same-world ram store before start between (h .held), same-size ram store (before ++ (start ∷ between))) (long-ram ram store before start (h .held .begins))
+
+  module _ (c : clear inArea (next t₀ start) between ≡ true) where
+    pixel-done : (j : ℕ) → j < 14336 → shadeIn (leaves w last .ram) (j % 128) (j / 128) ≡ pictureShade (imageIn start) regs (j % 128) (j / 128)
+    pixel-done j most =
+        rw (all-done, lt-ltb j 14336 most) at
+        (shown-next (imageIn start) regs (w₀ .ram) j most t w m n last o long (rw (ends-lands t last (h .over)))
+        (shown-now ram store before start between (h .held) j most (clear-pixel j most between (next t₀ start) c)))
+
+-- Picture: any calls, a start, any calls with no reset up to and with the one in which that capture reaches its end, none of which landed
+-- in the picture area: the area's 3,584 bytes are the picture afresh from the image lent at the start and the registers at the start
+pub picture : (ram store : List ℕ) (before : List Call) (start : Call) (between : List Call) (last : Call)
+    → Whole (told ram store before) start between last
+    → clear inArea (next (told ram store before) start) between ≡ true
+    → Bytes ram
+    → bytesIn (before ++ (start ∷ (between ++ (last ∷ [])))) ≡ true
+    → areaOf (after (fresh ram store) (before ++ (start ∷ (between ++ (last ∷ [])))) .ram) ≡ pictureOf (imageIn start) (registersAt (told ram store before) start)
+picture ram store before start between last h c first bytes =
+    let calls = before ++ (start ∷ (between ++ (last ∷ []))) in
+    area-whole (imageIn start) (registersAt (told ram store before) start) (after (fresh ram store) calls .ram)
+    (rw (same-size ram store calls) (long-ram ram store before start (h .held .begins)))
+    (bytes-after calls _ (fresh ram store) (at-reset ram store) bytes first)
+    (λ x y hx hy.
+    let a : (y * 128 + x) % 128 ≡ x = omega arith in
+    let b : (y * 128 + x) / 128 ≡ y = omega arith in
+    rw (whole-world ram store before start between last h) (rw (a, b) at (pixel-done ram store before start between last h c (y * 128 + x) (omega arith))))
+
+-- ---- and there it stays
+
+-- the first call of calls with no start
+first-rests : (t : Track) (k : Call) (cs : List Call) → noStart t (k ∷ cs) ≡ true → (starts t k ≡ false) × (noStart (next t k) cs ≡ true)
+unfolding noStart
+first-rests t k cs h = (not-true (starts t k) (both-left (not (starts t k)) (noStart (next t k) cs) h), both-right (not (starts t k)) (noStart (next t k) cs) h)
+
+-- a byte of the area, while no capture is held and no write lands there
+stays-next : (t : Track) (w : World) (m : Moment t w) (k : Call) (p : ℕ) → inArea p ≡ true → runsIn t k ≡ 0 → (lands t k && inArea (landsAt t k)) ≡ false
+    → getD (leaves w k .ram) p 0 ≡ getD (w .ram) p 0
+stays-next t w m k p here still out =
+    by-test (lands t k)
+    (λ on.
+    rw (ram-next t w m k, on)
+    (getD-set-other (w .ram) (landsAt t k) p (byteIn k) 0 (λ e. not-both here (ap inArea e ∙ rw on at out))))
+    (λ off. rw (ram-next t w m k, off, still, add-zero (t .ran), pixels-none (w .store) (t .taken) (doneBy (t .taken) (t .ran)) (w .ram)))
+
+stays-through : (cs : List Call) (t : Track) (w : World) → Moment t w → t .held ≡ false → noStart t cs ≡ true → clear inArea t cs ≡ true
+    → (p : ℕ) → inArea p ≡ true → getD (after w cs .ram) p 0 ≡ getD (w .ram) p 0
+unfolding after
+stays-through [] t w m h s c p here = refl
+stays-through (k ∷ cs) t w m h s c p here =
+    let f = first-rests t k cs s in
+    let g = first-clear inArea t k cs c in
+    let r = rests-next t k h (f .0) in
+    stays-through cs (next t k) (leaves w k) (moment-next t w m k) (r .1) (f .1) (g .1) p here ∙ stays-next t w m k p here (r .0) (g .0)
+
+-- two RAMs of a length with the same bytes there have the same area
+area-same : (r s : List ℕ) → length r ≡ length s → ((p : ℕ) → inArea p ≡ true → getD r p 0 ≡ getD s p 0) → areaOf r ≡ areaOf s
+unfolding inArea
+area-same r s l e =
+    ext-getD 0 (areaOf r) (areaOf s) (simp (length-take, length-drop, l))
+    (λ i h.
+    let most : i < 3584 = omega (arith, simp length-take at h) in
+    byte r i most ∙ e (0x100 + i) (rw (le-leb 0x100 (0x100 + i) (omega arith)) (le-leb (0x100 + i) 0xEFF (omega arith))) ∙ sym (byte s i most))
+  where
+    byte : (l : List ℕ) (i : ℕ) → i < 3584 → getD (areaOf l) i 0 ≡ getD l (0x100 + i) 0
+    byte l i h = getD-take 3584 (drop 0x100 l) i 0 h ∙ getD-drop 0x100 l i 0
+
+-- Picture stays: through any calls after the end, with no start and none that landed in the area, the area is that picture
+pub picture-stays : (ram store : List ℕ) (before : List Call) (start : Call) (between : List Call) (last : Call) (later : List Call)
+    → Whole (told ram store before) start between last
+    → clear inArea (next (told ram store before) start) between ≡ true
+    → noStart (told ram store (before ++ (start ∷ (between ++ (last ∷ []))))) later ≡ true
+    → clear inArea (told ram store (before ++ (start ∷ (between ++ (last ∷ []))))) later ≡ true
+    → Bytes ram
+    → bytesIn (before ++ (start ∷ (between ++ (last ∷ [])))) ≡ true
+    → areaOf (after (after (fresh ram store) (before ++ (start ∷ (between ++ (last ∷ []))))) later .ram) ≡ pictureOf (imageIn start) (registersAt (told ram store before) start)
+picture-stays ram store before start between last later h c s q first bytes =
+    let calls = before ++ (start ∷ (between ++ (last ∷ []))) in
+    let w : World = after (fresh ram store) calls in
+    let m = moment-after calls _ _ (at-reset ram store) in
+    let off : told ram store calls .held ≡ false = ap (λ (u : Track). u .held) (m .told .same) ∙ at-end ram store before start between last h in
+    area-same (after w later .ram) (w .ram) (size-after later _ w m) (stays-through later _ w m off s q)
+    ∙ picture ram store before start between last h c first bytes

@@ -1,0 +1,145 @@
+-- Worked histories: calls that meet all premises of `cycles`, `picture`, `half-picture` and `outside`, so that nobody doubts that they can be met. Assumes nothing.
+use mathlib.Core.Path.{_≡_, refl, sym, ap, _∙_}
+use mathlib.Core.Bool.{true}
+use mathlib.Core.List.{List, [], _∷_, _++_}
+use Prim.Native.Nat.{ℕ, _+_, _*_, _/_, _%_, _<_, _≤_}
+use native.Mathlib.Omega.{arith}
+use lib.Count.{ones, onesIn}
+use lib.ListN.{length, getD, replicate, length-replicate, getD-replicate, List·getD-eq-default}
+use borrow.Author.Tests.{le-leb, lt-leb}
+use Rattle.laws.proofs.Order.{split}
+use Rattle.sensor.specs.Taken.{exposureOf}
+use Rattle.controller.specs.Lent.{banksAllowed}
+use Rattle.controller.specs.Timing.{readingFrom, firstRow}
+use Rattle.controller.specs.Tiles.{shadeIn, areaOf, Bytes}
+use Rattle.controller.specs.Picture.{pictureShade, pictureOf}
+use Rattle.controller.specs.Bus.{onCartridge}
+use Rattle.history.specs.History.{Call, read, write, tick, inspect, fresh, after, counted}
+use Rattle.history.specs.Track.{atReset, writeAccepted, tickAccepted, cyclesOf, runsIn, ends, toRegisters, starts, imageIn, registersAt, lands, landsAt, byteIn, enabling, selecting, storing, beginning, running, ending, controlled, registered, written, next, follow, told}
+use Rattle.history.specs.Since.{isReset, goesOn, Held, Whole, inArea, ofPixel, cycleOf, clear, lastIn, bytesIn}
+use Rattle.history.proofs.Outside.{outside}
+use Rattle.history.proofs.Goes.{on}
+use Rattle.history.proofs.Cycles.{cycles}
+use Rattle.history.proofs.Picture.{picture}
+use Rattle.history.proofs.HalfPicture.{half-picture}
+
+-- one bank of RAM, all FF; a frame store; two images
+abbrev pub ram : List ℕ
+ram = replicate 8192 0xFF
+
+abbrev pub store : List ℕ
+store = replicate 16384 0x00
+
+abbrev pub image : List ℕ
+image = replicate 16384 0x80
+
+abbrev pub other : List ℕ
+other = replicate 16384 0x40
+
+-- the registers are selected; exposure 0010h
+abbrev pub before : List Call
+before = write image 0x4000 0x10 ∷ write image 0xA003 0x10 ∷ []
+
+-- the start: 03 to register 0
+abbrev pub start : Call
+start = write image 0xA000 0x03
+
+-- it runs 3,000 cycles, is stopped, and stands still
+abbrev pub stopped : List Call
+stopped = tick 3000 ∷ write other 0xA000 0x02 ∷ tick 500 ∷ []
+
+-- another exposure is written; RAM bank 5, of one bank, is selected and RAM writing enabled; a byte lands beside the area; a read, an
+-- inspection and a write that is refused; it is resumed
+abbrev pub between : List Call
+between =
+    stopped
+    ++ (write other 0xA003 0xFF
+    ∷ write other 0x4000 0x05
+    ∷ write other 0x0000 0x0A
+    ∷ write other 0xB000 0x5A
+    ∷ read [] 0xA100
+    ∷ inspect
+    ∷ write other 0x8000 0xFF
+    ∷ write other 0x4000 0x10
+    ∷ write other 0xA000 0x03
+    ∷ [])
+
+-- and it runs to its end
+abbrev pub last : Call
+last = tick 40000
+
+abbrev pub calls : List Call
+calls = before ++ (start ∷ (between ++ (last ∷ [])))
+
+-- the registers at the start
+abbrev pub regs : List ℕ
+regs = 0x03 ∷ 0x00 ∷ 0x00 ∷ 0x10 ∷ replicate 50 0x00
+
+-- the premises, each computed
+pub record Premises : Type 0 where
+  pub regs-at-start : registersAt (told ram store before) start ≡ regs
+  -- from its start to its end; no write landed in the area; what is written are bytes
+  pub whole : Whole (told ram store before) start between last
+  pub untouched : clear inArea (next (told ram store before) start) between ≡ true
+  pub bytes : bytesIn calls ≡ true
+  -- at the stop; no write landed in any pixel
+  pub held : Held (told ram store before) start stopped
+  pub unwritten : (j : ℕ) → clear (ofPixel j) (next (told ram store before) start) stopped ≡ true
+  pub ran : follow (next (told ram store before) start) stopped .ran ≡ 3000
+  -- one write landed, at 1000h
+  pub landed : (first : ℕ) → lastIn 0x1000 (atReset (length ram) (length store)) calls first ≡ 0x5A
+
+pub premises : Premises
+unfolding registersAt starts toRegisters writeAccepted tickAccepted banksAllowed ones onesIn onCartridge follow next atReset written registered controlled enabling selecting storing beginning running ending ends runsIn cyclesOf goesOn isReset clear inArea lands landsAt byteIn bytesIn lastIn
+premises = record {
+  regs-at-start = refl;
+  whole = record { held = record { begins = refl; goes = refl }; over = refl };
+  untouched = refl;
+  bytes = refl;
+  held = record { begins = refl; goes = refl };
+  unwritten = λ j. refl;
+  ran = refl;
+  landed = λ first. refl;
+}
+
+pub ram-bytes : Bytes ram
+ram-bytes i =
+    split i 8192
+    (λ l. rw (getD-replicate {A = ℕ} 8192 i 0xFF 0 l) (omega arith))
+    (λ l. rw (List·getD-eq-default ram 0 {n = i} (rw (length-replicate {A = ℕ} 8192 0xFF) l)) (omega arith))
+
+-- Worked cycles: 32,446 + 512 + 16 × 16 are counted, though 500 cycles stood still and more were given than were left
+pub worked-cycles : counted (after (fresh ram store) before) (start ∷ (between ++ (last ∷ []))) ≡ 33214
+unfolding cyclesOf
+worked-cycles = cycles ram store before start between last (premises .whole) ∙ ap cyclesOf (premises .regs-at-start)
+
+-- Worked picture: the picture of the first image, with the exposure at the start
+pub worked-picture : areaOf (after (fresh ram store) calls .ram) ≡ pictureOf image regs
+unfolding imageIn
+worked-picture =
+    picture ram store before start between last (premises .whole) (premises .untouched) ram-bytes (premises .bytes) ∙ ap (pictureOf image) (premises .regs-at-start)
+
+-- Worked outside: the byte that landed
+pub worked-outside : getD (after (fresh ram store) calls .ram) 0x1000 0 ≡ 0x5A
+worked-outside = outside ram store calls 0x1000 (unfold inArea in refl) ∙ premises .landed (getD ram 0x1000 0)
+
+ran-so-far : counted (after (fresh ram store) before) (start ∷ stopped) ≡ 3000
+ran-so-far = sym (on ram store before start stopped (premises .held) .ran) ∙ premises .ran
+
+cycle-of : (j : ℕ) → cycleOf regs j ≡ 2490 + 2 * j
+unfolding cycleOf readingFrom firstRow exposureOf
+cycle-of j = omega arith
+
+module _ (j : ℕ) (most : j < 14336) where
+  -- Worked half picture: at the stop pixels 0 to 255 are the fresh picture's
+  pub worked-passed : j < 256 → shadeIn (after (fresh ram store) (before ++ (start ∷ stopped)) .ram) (j % 128) (j / 128) ≡ pictureShade image regs (j % 128) (j / 128)
+  unfolding imageIn
+  worked-passed l =
+      half-picture ram store before start stopped j most (premises .held) (premises .unwritten j)
+      ∙ rw (premises .regs-at-start, ran-so-far, cycle-of j, le-leb (2490 + 2 * j) 3000 (omega arith))
+
+  -- and all the others are what they were
+  pub worked-waiting : 256 ≤ j → shadeIn (after (fresh ram store) (before ++ (start ∷ stopped)) .ram) (j % 128) (j / 128) ≡ shadeIn (after (fresh ram store) before .ram) (j % 128) (j / 128)
+  worked-waiting l =
+      half-picture ram store before start stopped j most (premises .held) (premises .unwritten j)
+      ∙ rw (premises .regs-at-start, ran-so-far, cycle-of j, lt-leb (2490 + 2 * j) 3000 (omega arith))

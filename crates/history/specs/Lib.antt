@@ -1,0 +1,4 @@
+-- Any sequence of calls: the calls and what each leaves, and what the calls alone tell.
+pub mod History
+pub mod Track
+pub mod Since

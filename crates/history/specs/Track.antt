@@ -1,0 +1,255 @@
+-- What the calls alone tell, with the sizes lent: no state, no byte of the RAM and no answer is looked at. Assumes nothing.
+use mathlib.Core.Path.{_≡_}
+use mathlib.Core.Bool.{Bool, true, false, not, _&&_}
+use mathlib.Core.List.{List, [], _∷_}
+use Prim.Native.Nat.{ℕ, _+_, _-_, _*_, _/_, _%_, min}
+use lib.Dec.{eqb, ltb}
+use lib.ListN.{length, getD, set}
+use Rattle.laws.specs.Pick.{pick}
+use Rattle.laws.specs.Bits.{isSet}
+use Rattle.controller.specs.Lent.{ramAllowed, frameAllowed}
+use Rattle.controller.specs.State.{started, noRegisters}
+use Rattle.controller.specs.Bus.{onCartridge}
+use Rattle.history.specs.History.{Call, reset, read, write, tick, inspect, World}
+
+-- the sizes lent; RAM writing enabled, select and registers, as the writes left them; whether a capture is held, and of that capture
+-- the image lent and the registers at its start, and the running cycles since
+pub record Track : Type 0 where
+  pub ramSize : ℕ
+  pub storeSize : ℕ
+  pub enabled : Bool
+  pub select : ℕ
+  pub registers : List ℕ
+  pub held : Bool
+  pub image : List ℕ
+  pub taken : List ℕ
+  pub ran : ℕ
+
+-- Reset: write enable off, select 0, all registers 0, no capture held
+unfoldable pub atReset : ℕ → ℕ → Track
+atReset r s = record {
+  ramSize = r;
+  storeSize = s;
+  enabled = false;
+  select = 0;
+  registers = noRegisters;
+  held = false;
+  image = [];
+  taken = noRegisters;
+  ran = 0;
+}
+
+-- a write is accepted where RAM, frame store and image are of a size allowed and the address is the cartridge's
+unfoldable pub writeAccepted : Track → List ℕ → ℕ → Bool
+writeAccepted t image a =
+    ramAllowed (t .ramSize) && ((frameAllowed (t .storeSize) && frameAllowed (length image)) && onCartridge a)
+
+-- a tick where RAM and frame store are
+unfoldable pub tickAccepted : Track → Bool
+tickAccepted t = ramAllowed (t .ramSize) && frameAllowed (t .storeSize)
+
+-- Total cycles = 32,446 + (N set: 0, clear: 512) + 16 × exposure; exposure = A002 × 256 + A003, N is bit 7 of A001
+unfoldable pub cyclesOf : List ℕ → ℕ
+cyclesOf regs = 32446 + pick (isSet (getD regs 1 0) 7) 0 512 + 16 * (getD regs 2 0 * 256 + getD regs 3 0)
+
+-- the running cycles of a call: those of a tick while a capture is held and register 0 has bit 0 set, up to the capture's total
+unfoldable pub runsIn : Track → Call → ℕ
+runsIn t reset = 0
+runsIn t (read rom a) = 0
+runsIn t (write image a v) = 0
+runsIn t (tick n) = pick (tickAccepted t && (t .held && started (t .registers))) (min n (cyclesOf (t .taken) - t .ran)) 0
+runsIn t inspect = 0
+
+-- a capture reaches its own end in a call: with that call's cycles it has run its total
+unfoldable pub ends : Track → Call → Bool
+ends t reset = false
+ends t (read rom a) = false
+ends t (write image a v) = false
+ends t (tick n) = t .held && eqb (t .ran + runsIn t (tick n)) (cyclesOf (t .taken))
+ends t inspect = false
+
+-- a write goes to the registers: A000-BFFF with bit 4 of select set
+unfoldable pub toRegisters : Track → List ℕ → ℕ → Bool
+toRegisters t image a = writeAccepted t image a && (not (ltb a 0x8000) && isSet (t .select) 4)
+
+-- a start: a write to register 0 with bit 0 set, no capture held
+unfoldable pub starts : Track → Call → Bool
+starts t reset = false
+starts t (read rom a) = false
+starts t (write image a v) = toRegisters t image a && (eqb (a % 128) 0 && (eqb (v % 2) 1 && not (t .held)))
+starts t (tick n) = false
+starts t inspect = false
+
+-- the image lent to a call
+unfoldable pub imageIn : Call → List ℕ
+imageIn reset = []
+imageIn (read rom a) = []
+imageIn (write image a v) = image
+imageIn (tick n) = []
+imageIn inspect = []
+
+-- the registers at a start: registers 1 to 53, and the new register 0
+unfoldable pub registersAt : Track → Call → List ℕ
+registersAt t reset = []
+registersAt t (read rom a) = []
+registersAt t (write image a v) = set (t .registers) 0 (v % 8)
+registersAt t (tick n) = []
+registersAt t inspect = []
+
+-- a write lands in the RAM: A000-BFFF with bit 4 of select clear, register 0 has bit 0 clear, RAM writing is enabled
+unfoldable pub lands : Track → Call → Bool
+lands t reset = false
+lands t (read rom a) = false
+lands t (write image a v) =
+    writeAccepted t image a && (not (ltb a 0x8000) && (not (isSet (t .select) 4) && (not (started (t .registers)) && t .enabled)))
+lands t (tick n) = false
+lands t inspect = false
+
+-- where it lands: RAM bank select modulo 16, bank numbers modulo the banks lent
+unfoldable pub landsAt : Track → Call → ℕ
+landsAt t reset = 0
+landsAt t (read rom a) = 0
+landsAt t (write image a v) = t .select % 16 % (t .ramSize / 8192) * 8192 + a % 8192
+landsAt t (tick n) = 0
+landsAt t inspect = 0
+
+-- and which byte
+unfoldable pub byteIn : Call → ℕ
+byteIn reset = 0
+byteIn (read rom a) = 0
+byteIn (write image a v) = v
+byteIn (tick n) = 0
+byteIn inspect = 0
+
+-- what is told, with one thing changed
+unfoldable pub enabling : Track → Bool → Track
+enabling t b = record {
+  ramSize = t .ramSize;
+  storeSize = t .storeSize;
+  enabled = b;
+  select = t .select;
+  registers = t .registers;
+  held = t .held;
+  image = t .image;
+  taken = t .taken;
+  ran = t .ran;
+}
+
+unfoldable pub selecting : Track → ℕ → Track
+selecting t n = record {
+  ramSize = t .ramSize;
+  storeSize = t .storeSize;
+  enabled = t .enabled;
+  select = n;
+  registers = t .registers;
+  held = t .held;
+  image = t .image;
+  taken = t .taken;
+  ran = t .ran;
+}
+
+unfoldable pub storing : Track → List ℕ → Track
+storing t regs = record {
+  ramSize = t .ramSize;
+  storeSize = t .storeSize;
+  enabled = t .enabled;
+  select = t .select;
+  registers = regs;
+  held = t .held;
+  image = t .image;
+  taken = t .taken;
+  ran = t .ran;
+}
+
+-- a capture begun, moved on, ended
+unfoldable pub beginning : Track → List ℕ → List ℕ → Track
+beginning t image regs = record {
+  ramSize = t .ramSize;
+  storeSize = t .storeSize;
+  enabled = t .enabled;
+  select = t .select;
+  registers = regs;
+  held = true;
+  image = image;
+  taken = regs;
+  ran = 0;
+}
+
+unfoldable pub running : Track → ℕ → Track
+running t n = record {
+  ramSize = t .ramSize;
+  storeSize = t .storeSize;
+  enabled = t .enabled;
+  select = t .select;
+  registers = t .registers;
+  held = t .held;
+  image = t .image;
+  taken = t .taken;
+  ran = n;
+}
+
+unfoldable pub ending : Track → Track
+ending t = record {
+  ramSize = t .ramSize;
+  storeSize = t .storeSize;
+  enabled = t .enabled;
+  select = t .select;
+  registers = set (t .registers) 0 (getD (t .registers) 0 0 / 2 * 2);
+  held = false;
+  image = t .image;
+  taken = noRegisters;
+  ran = 0;
+}
+
+-- 0000-1FFF: 0A enables, 00 disables RAM writing. 4000-5FFF: select is the low five bits
+unfoldable pub controlled : Track → ℕ → ℕ → Track
+controlled t a v =
+    pick (ltb a 0x2000)
+    (pick (eqb v 0x0A) (enabling t true) (pick (eqb v 0x00) (enabling t false) t))
+    (pick (ltb a 0x4000) t (pick (ltb a 0x6000) (selecting t (v % 32)) t))
+
+-- register 0 stores the low three bits; registers 1 to 53 the byte; 54 to 127 nothing. A start takes the registers and the image
+unfoldable pub registered : Track → List ℕ → ℕ → ℕ → Track
+registered t image i v =
+    pick (eqb i 0)
+    (pick (eqb (v % 2) 1 && not (t .held)) (beginning t image (set (t .registers) 0 (v % 8))) (storing t (set (t .registers) 0 (v % 8))))
+    (pick (ltb i 54) (storing t (set (t .registers) i v)) t)
+
+unfoldable pub written : Track → List ℕ → ℕ → ℕ → Track
+written t image a v = pick (ltb a 0x8000) (controlled t a v) (pick (isSet (t .select) 4) (registered t image (a % 128) v) t)
+
+-- what is told after one call more; a refused call changes nothing
+unfoldable pub next : Track → Call → Track
+next t reset = atReset (t .ramSize) (t .storeSize)
+next t (read rom a) = t
+next t (write image a v) = pick (writeAccepted t image a) (written t image a v) t
+next t (tick n) = pick (ends t (tick n)) (ending t) (running t (t .ran + runsIn t (tick n)))
+next t inspect = t
+
+-- and after a list of calls, the first call first
+unfoldable pub follow : Track → List Call → Track
+follow t [] = t
+follow t (c ∷ cs) = follow (next t c) cs
+
+-- what the calls tell from reset on, over RAM and frame store of these sizes
+abbrev pub told : List ℕ → List ℕ → List Call → Track
+told ram store cs = follow (atReset (length ram) (length store)) cs
+
+-- what a world shows of it; the image is not kept in the state
+abbrev pub seen : World → List ℕ → Track
+seen w image = record {
+  ramSize = length (w .ram);
+  storeSize = length (w .store);
+  enabled = w .state .enabled;
+  select = w .state .select;
+  registers = w .state .registers;
+  held = w .state .held;
+  image = image;
+  taken = w .state .taken;
+  ran = w .state .elapsed .0;
+}
+
+-- what is told is true of a world: it is what the world shows, and while a capture is held the frame store is the image told
+pub record Told (t : Track) (w : World) : Type 0 where
+  pub same : t ≡ seen w (t .image)
+  pub own : w .state .held ≡ true → w .store ≡ t .image

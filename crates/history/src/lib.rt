@@ -1,0 +1,1 @@
+// Any sequence of calls from reset: theorems only, no code.
