@@ -1,0 +1,170 @@
+-- Each exported function's meaning, case by case: bytes that are no record, a refusal, and what is done. Assumes nothing.
+use mathlib.Core.Path.{_≡_, refl, sym, ap, _∙_}
+use mathlib.Core.Bool.{Bool, true, false}
+use mathlib.Core.List.{List, []}
+use Prim.Native.Nat.{ℕ, zero, suc}
+use lib.Dec.{eqb}
+use lib.ListN.{length}
+use Rattle.controller.specs.declared.Controller.{Controller}
+use Rattle.controller.specs.declared.Cycles.{Cycles}
+use Rattle.controller.specs.declared.Refusal.{Refusal}
+use Rattle.controller.specs.declared.ReadAnswer.{ReadAnswer}
+use Rattle.controller.specs.declared.ReadAnswer.the-variants as reads
+use Rattle.controller.specs.declared.WriteAnswer.{WriteAnswer}
+use Rattle.controller.specs.declared.WriteAnswer.the-variants as writes
+use Rattle.controller.specs.declared.TickAnswer.{TickAnswer}
+use Rattle.controller.specs.declared.TickAnswer.the-variants as ticks
+use Rattle.controller.specs.declared.Element.{Element}
+use Rattle.controller.specs.declared.Element.the-variants as elements
+use Rattle.controller.specs.declared.ReadDone.{ReadDone}
+use Rattle.controller.specs.declared.WriteDone.{WriteDone}
+use Rattle.controller.specs.declared.TickDone.{TickDone}
+use Rattle.controller.specs.State.{resetState}
+use Rattle.controller.specs.Tiles.{Bytes}
+use Rattle.controller.specs.Outcome.{Outcome, outcome, numberOf, readNumber, readValue, readOutcome, writeNumber, writeOutcome, tickNumber, tickValue, tickOutcome, inspection}
+use Rattle.controller.specs.Calls.{readMeans, writeMeans, tickMeans}
+use Rattle.controller.specs.Inspect.{inspectMeans}
+use Rattle.controller.specs.Table.{lowest, readRows}
+use Rattle.controller.specs.Picture.{afresh, pictureMeans}
+use Rattle.controller.proofs.Only.{some-number}
+use Rattle.controller.proofs.Refusals.{Refuses, read-refuses, write-refuses, tick-refuses}
+use Rattle.embed.specs.Layout.{encoded, isRecord, decoded}
+use Rattle.embed.specs.Packed.{packed}
+use Rattle.embed.specs.Exports.{called, asBytes, noRecord, unread, resetBytes, readBytes, writeBytes, tickBytes, inspected, inspectBytes, drawn, asDrawn, pictureBytes}
+use Rattle.embed.proofs.Inverse.{encode-decode}
+
+-- an outcome with a number hands back the state given and changes no byte lent
+pub kept : {rows : List Bool} {c : Controller} {ram store : List ℕ} {o done : Outcome} → Refuses rows c ram store o done
+    → (n : ℕ) → (0 ≡ n → ⊥) → o .number ≡ n → o ≡ outcome n 0 c ram store
+kept r zero some e = absurd (some refl)
+kept r (suc k) some e = r .kept k (sym (r .number) ∙ e)
+
+-- so do its bytes: what a call left that was refused is what it was lent
+module _ (s ram store : List ℕ) (bytes : Bytes s) (h : isRecord s ≡ true) {rows : List Bool} {o done : Outcome} (r : Refuses rows (decoded s) ram store o done) where
+  pub unchanged : (why : Refusal) (c : Controller) (ram′ store′ : List ℕ) → outcome (numberOf why) 0 c ram′ store′ ≡ o → called (packed (numberOf why) 0) s ram′ store′ ≡ asBytes o
+  unchanged why c ram′ store′ e =
+      let k : o ≡ outcome (numberOf why) 0 (decoded s) ram store = kept r (numberOf why) (some-number why) (sym (λ i. e i .number)) in
+      let f : outcome (numberOf why) 0 c ram′ store′ ≡ outcome (numberOf why) 0 (decoded s) ram store = e ∙ k in
+      (λ i. called (packed (numberOf why) 0) s (f i .ram) (f i .store))
+      ∙ sym (ap asBytes k ∙ ap (λ t. called (packed (numberOf why) 0) t ram store) (encode-decode s bytes h))
+
+-- ---- reset
+
+pub reset-short : (s : List ℕ) → eqb (length s) 116 ≡ false → resetBytes s ≡ unread s [] []
+unfolding resetBytes
+reset-short s h = simp h
+
+pub reset-done : (s : List ℕ) → eqb (length s) 116 ≡ true → resetBytes s ≡ called (packed 0 0) (encoded resetState) [] []
+unfolding resetBytes
+reset-done s h = simp h
+
+-- ---- read
+
+-- a read hands back the state given, refused or not
+pub read-state : (c : Controller) (rom ram : List ℕ) (a : ℕ) → readMeans c rom ram a .state ≡ c
+read-state c rom ram a = by-number (lowest (readRows c rom ram a)) refl
+  where
+    by-number : (n : ℕ) → lowest (readRows c rom ram a) ≡ n → readMeans c rom ram a .state ≡ c
+    by-number zero e = λ i. read-refuses c rom ram a .does e i .state
+    by-number (suc k) e = λ i. read-refuses c rom ram a .kept k e i .state
+
+module _ (s rom ram : List ℕ) (a : ℕ) where
+  pub read-unread : isRecord s ≡ false → readBytes s rom ram a ≡ unread s ram []
+  unfolding readBytes
+  read-unread h = simp h
+
+  pub read-done : isRecord s ≡ true → readBytes s rom ram a ≡ asBytes (readMeans (decoded s) rom ram a)
+  unfolding readBytes
+  read-done h = simp h
+
+  module _ (bytes : Bytes s) (h : isRecord s ≡ true) (d : Controller) (r : ReadDone) (e : d ≡ decoded s) (means : readOutcome r ram ≡ readMeans d rom ram a) where
+    -- what the code answered is the meaning's outcome
+    read-is : (x : ReadAnswer) → r .answer ≡ x → outcome (readNumber x) (readValue x) (r .state) ram [] ≡ readMeans (decoded s) rom ram a
+    read-is x f = ap (λ y. outcome (readNumber y) (readValue y) (r .state) ram []) (sym f) ∙ means ∙ ap (λ c. readMeans c rom ram a) e
+
+    pub read-byte : (b : ℕ) → r .answer ≡ reads.Byte b → (p : ℕ) → p ≡ packed 0 b → called p s ram [] ≡ readBytes s rom ram a
+    read-byte b f p q =
+        let g : outcome 0 b (r .state) ram [] ≡ readMeans (decoded s) rom ram a = read-is (reads.Byte b) f in
+        let same : r .state ≡ decoded s = (λ i. g i .state) ∙ read-state (decoded s) rom ram a in
+        (λ i. called (q i) s ram [])
+        ∙ ap (λ t. called (packed 0 b) t ram []) (sym (ap encoded same ∙ encode-decode s bytes h))
+        ∙ ap asBytes g
+        ∙ sym (read-done h)
+
+    pub read-refusal : (why : Refusal) → r .answer ≡ reads.Refused why → (p : ℕ) → p ≡ packed (numberOf why) 0 → called p s ram [] ≡ readBytes s rom ram a
+    read-refusal why f p q =
+        (λ i. called (q i) s ram [])
+        ∙ unchanged s ram [] bytes h (read-refuses (decoded s) rom ram a) why (r .state) ram [] (read-is (reads.Refused why) f)
+        ∙ sym (read-done h)
+
+-- ---- write
+
+module _ (s ram store image : List ℕ) (a v : ℕ) where
+  pub write-unread : isRecord s ≡ false → writeBytes s ram store image a v ≡ unread s ram store
+  unfolding writeBytes
+  write-unread h = simp h
+
+  pub write-done : isRecord s ≡ true → writeBytes s ram store image a v ≡ asBytes (writeMeans (decoded s) ram store image a v)
+  unfolding writeBytes
+  write-done h = simp h
+
+  module _ (h : isRecord s ≡ true) (d : Controller) (r : WriteDone) (ram′ store′ : List ℕ) (e : d ≡ decoded s) (means : writeOutcome r ram′ store′ ≡ writeMeans d ram store image a v) where
+    write-is : (x : WriteAnswer) → r .answer ≡ x → outcome (writeNumber x) 0 (r .state) ram′ store′ ≡ writeMeans (decoded s) ram store image a v
+    write-is x f = ap (λ y. outcome (writeNumber y) 0 (r .state) ram′ store′) (sym f) ∙ means ∙ ap (λ c. writeMeans c ram store image a v) e
+
+    pub write-wrote : r .answer ≡ writes.Done → (p : ℕ) (t : List ℕ) → p ≡ packed 0 0 → t ≡ encoded (r .state) → called p t ram′ store′ ≡ writeBytes s ram store image a v
+    write-wrote f p t q g = (λ i. called (q i) (g i) ram′ store′) ∙ ap asBytes (write-is writes.Done f) ∙ sym (write-done h)
+
+    pub write-refusal : Bytes s → (why : Refusal) → r .answer ≡ writes.Refused why → (p : ℕ) → p ≡ packed (numberOf why) 0 → called p s ram′ store′ ≡ writeBytes s ram store image a v
+    write-refusal bytes why f p q =
+        (λ i. called (q i) s ram′ store′)
+        ∙ unchanged s ram store bytes h (write-refuses (decoded s) ram store image a v) why (r .state) ram′ store′ (write-is (writes.Refused why) f)
+        ∙ sym (write-done h)
+
+-- ---- tick
+
+module _ (s ram store : List ℕ) (n : ℕ) where
+  pub tick-unread : isRecord s ≡ false → tickBytes s ram store n ≡ unread s ram store
+  unfolding tickBytes
+  tick-unread h = simp h
+
+  pub tick-done : isRecord s ≡ true → tickBytes s ram store n ≡ asBytes (tickMeans (decoded s) ram store n)
+  unfolding tickBytes
+  tick-done h = simp h
+
+  module _ (h : isRecord s ≡ true) (d : Controller) (r : TickDone) (ram′ : List ℕ) (e : d ≡ decoded s) (means : tickOutcome r ram′ store ≡ tickMeans d ram store n) where
+    tick-is : (x : TickAnswer) → r .answer ≡ x → outcome (tickNumber x) (tickValue x) (r .state) ram′ store ≡ tickMeans (decoded s) ram store n
+    tick-is x f = ap (λ y. outcome (tickNumber y) (tickValue y) (r .state) ram′ store) (sym f) ∙ means ∙ ap (λ c. tickMeans c ram store n) e
+
+    pub tick-ran : (k : Cycles) → r .answer ≡ ticks.Ran k → (p : ℕ) (t : List ℕ) → p ≡ packed 0 (k .0) → t ≡ encoded (r .state) → called p t ram′ store ≡ tickBytes s ram store n
+    tick-ran k f p t q g = (λ i. called (q i) (g i) ram′ store) ∙ ap asBytes (tick-is (ticks.Ran k) f) ∙ sym (tick-done h)
+
+    pub tick-refusal : Bytes s → (why : Refusal) → r .answer ≡ ticks.Refused why → (p : ℕ) → p ≡ packed (numberOf why) 0 → called p s ram′ store ≡ tickBytes s ram store n
+    tick-refusal bytes why f p q =
+        (λ i. called (q i) s ram′ store)
+        ∙ unchanged s ram store bytes h (tick-refuses (decoded s) ram store n) why (r .state) ram′ store (tick-is (ticks.Refused why) f)
+        ∙ sym (tick-done h)
+
+-- ---- inspection
+
+module _ (s : List ℕ) where
+  pub inspect-unread : isRecord s ≡ false → inspectBytes s ≡ noRecord
+  unfolding inspectBytes
+  inspect-unread h = simp h
+
+  pub inspect-done : isRecord s ≡ true → inspectBytes s ≡ inspected (inspectMeans (decoded s))
+  unfolding inspectBytes
+  inspect-done h = simp h
+
+  module _ (h : isRecord s ≡ true) (d : Controller) (r : Element) (e : d ≡ decoded s) (means : inspection r ≡ inspectMeans d) where
+    -- what the code found, packed, is the meaning's answer
+    pub inspect-found : (x : Element) → r ≡ x → (p : ℕ) → p ≡ inspected (inspection x) → p ≡ inspectBytes s
+    inspect-found x f p q =
+        q ∙ ap (λ y. inspected (inspection y)) (sym f) ∙ ap inspected means ∙ ap (λ c. inspected (inspectMeans c)) e ∙ sym (inspect-done h)
+
+-- ---- the picture afresh
+
+module _ (frame registers picture : List ℕ) (r : WriteAnswer) (left : List ℕ) (means : afresh (writeNumber r) left ≡ pictureMeans frame registers picture) where
+  pub picture-drawn : (x : WriteAnswer) → r ≡ x → (p : ℕ) → p ≡ packed (writeNumber x) 0 → drawn p left ≡ pictureBytes frame registers picture
+  unfolding pictureBytes
+  picture-drawn x f p q = (λ i. drawn (q i) left) ∙ ap asDrawn (ap (λ y. afresh (writeNumber y) left) (sym f) ∙ means)

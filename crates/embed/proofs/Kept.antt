@@ -1,0 +1,45 @@
+-- A refused call leaves the state bytes, the RAM and the frame store as they were. Assumes nothing.
+use mathlib.Core.Path.{_≡_, refl, sym, _∙_}
+use mathlib.Core.Bool.{Bool, true}
+use mathlib.Core.List.{List}
+use Prim.Native.Nat.{ℕ, _/_, _<_}
+use Rattle.controller.specs.Tiles.{Bytes}
+use Rattle.controller.specs.Outcome.{Outcome}
+use Rattle.controller.proofs.Refusals.{either, Refuses, write-refuses, tick-refuses}
+use Rattle.embed.specs.Layout.{encoded, isRecord, decoded}
+use Rattle.embed.specs.Exports.{Called, asBytes, writeBytes, tickBytes}
+use Rattle.embed.proofs.Inverse.{encode-decode}
+use Rattle.embed.proofs.Cases.{kept, write-unread, write-done, tick-unread, tick-done}
+use Rattle.embed.proofs.Only.{write-says, tick-says}
+
+pub record Keeps (c : Called) (s m f : List ℕ) : Type 0 where
+  pub state : c .state ≡ s
+  pub ram : c .ram ≡ m
+  pub store : c .store ≡ f
+
+module _ (s ram store : List ℕ) (bytes : Bytes s) where
+  keeps : isRecord s ≡ true → {rows : List Bool} {o done : Outcome} → Refuses rows (decoded s) ram store o done → (0 ≡ o .number → ⊥) → Keeps (asBytes o) s ram store
+  keeps h {rows} {o} {done} r some =
+      let k = kept r (o .number) some refl in
+      record {
+        state = (λ i. encoded (k i .state)) ∙ encode-decode s bytes h;
+        ram = λ i. k i .ram;
+        store = λ i. k i .store;
+      }
+
+  -- an answer that is not below 2^32 is a refusal
+  pub write-kept : (image : List ℕ) (a v : ℕ) → (0 ≡ writeBytes s ram store image a v .answer / 4294967296 → ⊥) → Keeps (writeBytes s ram store image a v) s ram store
+  write-kept image a v some =
+      either (isRecord s)
+      (λ h.
+      rw (write-done s ram store image a v h)
+      (keeps h (write-refuses (decoded s) ram store image a v) (λ z. some (z ∙ sym (write-says s ram store image a v h .number)))))
+      (λ h. rw (write-unread s ram store image a v h) (record { state = refl; ram = refl; store = refl }))
+
+  pub tick-kept : (n : ℕ) → n < 4294967296 → (0 ≡ tickBytes s ram store n .answer / 4294967296 → ⊥) → Keeps (tickBytes s ram store n) s ram store
+  tick-kept n l some =
+      either (isRecord s)
+      (λ h.
+      rw (tick-done s ram store n h)
+      (keeps h (tick-refuses (decoded s) ram store n) (λ z. some (z ∙ sym (tick-says s ram store n l h .number)))))
+      (λ h. rw (tick-unread s ram store n h) (record { state = refl; ram = refl; store = refl }))

@@ -1,0 +1,7 @@
+-- Laws of the exported functions' definitions.
+pub mod Inverse
+pub mod Stores
+pub mod Cases
+pub mod Only
+pub mod Kept
+pub mod Left

@@ -1,0 +1,97 @@
+-- No second answer fits: a packed answer gives back its number and its value, for each call. Assumes nothing.
+use mathlib.Core.Path.{_≡_, refl, sym, ap, _∙_}
+use mathlib.Core.Bool.{Bool, true}
+use mathlib.Core.List.{List}
+use Prim.Native.Nat.{ℕ, zero, suc, _+_, _/_, _%_, _<_, _≤_}
+use native.Mathlib.Omega.{arith}
+use lib.Dec.{eqb, ltb}
+use borrow.Author.Tests.{ltb-true}
+use Rattle.laws.specs.Iter.{iter}
+use Rattle.laws.proofs.Pick.{pick-ind}
+use Rattle.controller.specs.declared.Controller.{Controller}
+use Rattle.controller.specs.State.{cantExist, started}
+use Rattle.controller.specs.Tiles.{Bytes}
+use Rattle.controller.specs.Outcome.{Outcome, Inspection}
+use Rattle.controller.specs.Bus.{registersOn, romRead, byteRead}
+use Rattle.controller.specs.Capture.{Ticking, running, runs, cycle, ticks, from}
+use Rattle.controller.specs.Calls.{readMeans, writeMeans, tickMeans}
+use Rattle.controller.specs.Inspect.{firstIn, named, inspectMeans}
+use Rattle.controller.specs.Table.{lowest}
+use Rattle.controller.proofs.Refusals.{Refuses, read-refuses, write-refuses, tick-refuses}
+use Rattle.embed.specs.Layout.{isRecord, decoded}
+use Rattle.embed.specs.Packed.{packed}
+use Rattle.embed.specs.Exports.{readBytes, writeBytes, tickBytes, elementValue, inspectBytes}
+use Rattle.embed.proofs.Cases.{read-done, write-done, tick-done, inspect-done}
+
+-- the number stands above 2^32, and the value below
+pub record Says (answer n v : ℕ) : Type 0 where
+  pub number : answer / 4294967296 ≡ n
+  pub value : answer % 4294967296 ≡ v
+
+pub packed-says : (number value : ℕ) → value < 4294967296 → Says (packed number value) number value
+unfolding packed
+packed-says number value h = record { number = omega arith; value = omega arith }
+
+pub only-packed : (m n v w : ℕ) → v < 4294967296 → w < 4294967296 → packed m v ≡ packed n w → (m ≡ n) × (v ≡ w)
+only-packed m n v w hv hw e =
+    let p = packed-says m v hv in
+    let q = packed-says n w hw in
+    (sym (p .number) ∙ ap (λ k. k / 4294967296) e ∙ q .number, sym (p .value) ∙ ap (λ k. k % 4294967296) e ∙ q .value)
+
+-- a refusal's value is 0, so an outcome's value is below 2^32 where that of what is done is
+small : {rows : List Bool} {c : Controller} {ram store : List ℕ} {o done : Outcome} → Refuses rows c ram store o done → done .value < 4294967296 → o .value < 4294967296
+small {rows} {c} {ram} {store} {o} {done} r h = by-number (lowest rows) refl
+  where
+    by-number : (n : ℕ) → lowest rows ≡ n → o .value < 4294967296
+    by-number zero e = rw (r .does e) h
+    by-number (suc k) e = rw (r .kept k e) (omega arith)
+
+-- a byte that is read is a byte
+byte-small : (c : Controller) (rom ram : List ℕ) (a : ℕ) → Bytes rom → Bytes ram → byteRead c rom ram a < 256
+unfolding byteRead romRead
+byte-small c rom ram a hr hm =
+    pick-ind (λ n. n < 256) (ltb a 0x8000)
+    (λ t. pick-ind (λ n. n < 256) (ltb a 0x4000) (λ u. hr _) (λ u. hr _))
+    (λ t.
+    pick-ind (λ n. n < 256) (registersOn c)
+    (λ u. pick-ind (λ n. n < 256) (eqb (a % 128) 0) (λ z. omega arith) (λ z. omega arith))
+    (λ u. pick-ind (λ n. n < 256) (started (c .registers)) (λ z. omega arith) (λ z. hm _)))
+
+-- a tick counts no more cycles than it was given
+cycle-most : (frame : List ℕ) (w : Ticking) → cycle frame w .ran ≤ w .ran + 1
+unfolding cycle runs
+cycle-most frame w = pick-ind (λ (v : Ticking). v .ran ≤ w .ran + 1) (running (w .state)) (λ t. omega arith) (λ t. omega arith)
+
+ticks-most : (frame : List ℕ) (n : ℕ) (w : Ticking) → ticks frame n w .ran ≤ w .ran + n
+unfolding iter
+ticks-most frame zero w = omega arith
+ticks-most frame (suc n) w = omega (arith, cycle-most frame (iter (cycle frame) n w), ticks-most frame n w)
+
+-- an element's row and column are small
+named-small : (k : ℕ) → elementValue (named k) < 4294967296
+named-small k = pick-ind (λ (i : Inspection). elementValue i < 4294967296) (ltb k 16) (λ t. omega (arith, ltb-true k 16 t)) (λ t. omega arith)
+
+inspect-small : (c : Controller) → elementValue (inspectMeans c) < 4294967296
+unfolding inspectMeans
+inspect-small c = pick-ind (λ (i : Inspection). elementValue i < 4294967296) (cantExist c) (λ t. omega arith) (λ t. named-small (firstIn (c .registers) 0 16))
+
+-- each answer says the controller's number and value
+pub read-says : (s rom ram : List ℕ) (a : ℕ) → Bytes rom → Bytes ram → isRecord s ≡ true
+    → Says (readBytes s rom ram a .answer) (readMeans (decoded s) rom ram a .number) (readMeans (decoded s) rom ram a .value)
+read-says s rom ram a hr hm h =
+    rw (read-done s rom ram a h)
+    (packed-says _ _ (small (read-refuses (decoded s) rom ram a) (omega (arith, byte-small (decoded s) rom ram a hr hm))))
+
+pub write-says : (s ram store image : List ℕ) (a v : ℕ) → isRecord s ≡ true
+    → Says (writeBytes s ram store image a v .answer) (writeMeans (decoded s) ram store image a v .number) (writeMeans (decoded s) ram store image a v .value)
+write-says s ram store image a v h =
+    rw (write-done s ram store image a v h) (packed-says _ _ (small (write-refuses (decoded s) ram store image a v) (omega arith)))
+
+pub tick-says : (s ram store : List ℕ) (n : ℕ) → n < 4294967296 → isRecord s ≡ true
+    → Says (tickBytes s ram store n .answer) (tickMeans (decoded s) ram store n .number) (tickMeans (decoded s) ram store n .value)
+tick-says s ram store n l h =
+    rw (tick-done s ram store n h)
+    (packed-says _ _ (small (tick-refuses (decoded s) ram store n) (omega (arith, ticks-most store n (from (decoded s) ram)))))
+
+pub inspect-says : (s : List ℕ) → isRecord s ≡ true → Says (inspectBytes s) (inspectMeans (decoded s) .number) (elementValue (inspectMeans (decoded s)))
+inspect-says s h = rw (inspect-done s h) (packed-says _ _ (inspect-small (decoded s)))

@@ -1,0 +1,75 @@
+-- What each exported function answers and leaves: the controller's meaning, with the state as bytes. Assumes nothing.
+use mathlib.Core.List.{List, []}
+use Prim.Native.Nat.{ℕ, _+_, _*_}
+use lib.Dec.{eqb}
+use lib.ListN.{length}
+use Rattle.laws.specs.Pick.{pick}
+use Rattle.controller.specs.declared.Refusal.the-variants.{State}
+use Rattle.controller.specs.State.{resetState}
+use Rattle.controller.specs.Outcome.{Outcome, Inspection, numberOf}
+use Rattle.controller.specs.Calls.{readMeans, writeMeans, tickMeans}
+use Rattle.controller.specs.Inspect.{inspectMeans}
+use Rattle.controller.specs.Picture.{Afresh, pictureMeans}
+use Rattle.embed.specs.Layout.{encoded, isRecord, decoded}
+use Rattle.embed.specs.Packed.{packed}
+
+-- an answer, and the bytes left: state, RAM, frame store; what a call is not lent is the empty list
+pub record Called : Type 0 where
+  pub answer : ℕ
+  pub state : List ℕ
+  pub ram : List ℕ
+  pub store : List ℕ
+
+abbrev pub called : ℕ → List ℕ → List ℕ → List ℕ → Called
+called answer state ram store = record { answer = answer; state = state; ram = ram; store = store }
+
+-- an outcome of the controller, with its answer packed and its state as bytes
+abbrev pub asBytes : Outcome → Called
+asBytes o = called (packed (o .number) (o .value)) (encoded (o .state)) (o .ram) (o .store)
+
+-- 1: the state record can't exist, with value 0; every byte stays
+abbrev pub noRecord : ℕ
+noRecord = packed (numberOf State) 0
+
+abbrev pub unread : List ℕ → List ℕ → List ℕ → Called
+unread s ram store = called noRecord s ram store
+
+-- reset needs no record, only its 116 bytes
+unfoldable pub resetBytes : List ℕ → Called
+resetBytes s = pick (eqb (length s) 116) (called (packed 0 0) (encoded resetState) [] []) (unread s [] [])
+
+-- bytes that are no record are refused before all others
+unfoldable pub readBytes : List ℕ → List ℕ → List ℕ → ℕ → Called
+readBytes s rom ram a = pick (isRecord s) (asBytes (readMeans (decoded s) rom ram a)) (unread s ram [])
+
+unfoldable pub writeBytes : List ℕ → List ℕ → List ℕ → List ℕ → ℕ → ℕ → Called
+writeBytes s ram store image a v =
+    pick (isRecord s) (asBytes (writeMeans (decoded s) ram store image a v)) (unread s ram store)
+
+unfoldable pub tickBytes : List ℕ → List ℕ → List ℕ → ℕ → Called
+tickBytes s ram store n = pick (isRecord s) (asBytes (tickMeans (decoded s) ram store n)) (unread s ram store)
+
+-- an element of the matrix as a value: 0 where there is none, else 0x100 + 16 × row + column
+abbrev pub elementValue : Inspection → ℕ
+elementValue i = pick (i .found) (0x100 + 16 * i .row + i .column) 0
+
+abbrev pub inspected : Inspection → ℕ
+inspected i = packed (i .number) (elementValue i)
+
+unfoldable pub inspectBytes : List ℕ → ℕ
+inspectBytes s = pick (isRecord s) (inspected (inspectMeans (decoded s))) noRecord
+
+-- an answer, and the picture's bytes left
+pub record Drawn : Type 0 where
+  pub answer : ℕ
+  pub picture : List ℕ
+
+abbrev pub drawn : ℕ → List ℕ → Drawn
+drawn answer picture = record { answer = answer; picture = picture }
+
+abbrev pub asDrawn : Afresh → Drawn
+asDrawn a = drawn (packed (a .number) 0) (a .bytes)
+
+-- the picture afresh needs no record: frame, 54 registers, and the bytes that it fills
+unfoldable pub pictureBytes : List ℕ → List ℕ → List ℕ → Drawn
+pictureBytes frame registers picture = asDrawn (pictureMeans frame registers picture)

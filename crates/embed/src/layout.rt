@@ -1,0 +1,112 @@
+// The state record as bytes: 116 of them, numbers little-endian.
+use controller::Controller;
+use controller::Cycles;
+ghost use mathlib.Core.Path.{_≡_};
+ghost use mathlib.Core.Bool.{true};
+ghost use mathlib.Core.List.{_++_};
+ghost use Prim.Native.Nat.{_+_, _<_, _≤_};
+ghost use lib.ListN.{length, take, drop};
+ghost use Rattle.embed.specs.Layout.{front, encoded, isRecord, fourAt, registersAt, decoded};
+
+// A byte as a wider number, with its bound.
+pub fn wide(x: u8) -> u32
+    ensures { λ r. ⌜ (r ≡ x) × (r < 256) ⌝ }
+{
+    x as u32
+}
+
+// The record's length.
+pub const STATE_LEN: usize = 116;
+
+// Whether bytes are a record: as many as it has, and its two flags 0 or 1.
+pub fn is_record(state: &[u8]) -> bool
+    ensures { λ r. ⌜ r ≡ isRecord (now (state .entry)) ⌝ }
+{
+    if state.len() != STATE_LEN {
+        return false;
+    }
+    if 1 < state[0] {
+        return false;
+    }
+    state[3] <= 1
+}
+
+// Four bytes from a place on as one number, the lowest first.
+fn four_at(state: &[u8], at: usize) -> u32
+    requires { ⌜ at + 4 ≤ length (now state) ⌝ }
+    ensures { λ r. ⌜ r ≡ fourAt (now (state .entry)) at ⌝ }
+{
+    wide(state[at])
+        + 256 * wide(state[at + 1])
+        + 65536 * wide(state[at + 2])
+        + 16777216 * wide(state[at + 3])
+}
+
+// 54 bytes from a place on.
+fn registers_at(state: &[u8], at: usize) -> [u8; 54]
+    requires { ⌜ at + 54 ≤ length (now state) ⌝ }
+    ensures { λ r. ⌜ r ≡ registersAt (now (state .entry)) at ⌝ }
+{
+    let mut out = [0u8; 54];
+    for i in 0..54 {
+        out[i] = state[at + i];
+    }
+    out
+}
+
+// The record of its bytes.
+pub fn decode(state: &[u8]) -> Controller
+    requires { ⌜ isRecord (now state) ≡ true ⌝ }
+    ensures { λ r. ⌜ r ≡ decoded (now (state .entry)) ⌝ }
+{
+    let registers = registers_at(state, 8);
+    let taken = registers_at(state, 62);
+    let elapsed = Cycles(four_at(state, 4));
+    Controller {
+        enabled: state[0] == 1,
+        bank: state[1],
+        select: state[2],
+        registers,
+        held: state[3] == 1,
+        taken,
+        elapsed,
+    }
+}
+
+// Writes the record's first eight bytes: flags, banks, elapsed cycles.
+fn put_front(c: Controller, state: &mut [u8])
+    requires { ⌜ 8 ≤ length (now state) ⌝ }
+    ensures { λ _. ⌜ now (state .exit) ≡ front c ++ drop 8 (now (state .entry)) ⌝ }
+{
+    let e = c.elapsed.0;
+    state[0] = c.enabled as u8;
+    state[1] = c.bank;
+    state[2] = c.select;
+    state[3] = c.held as u8;
+    state[4] = (e % 256) as u8;
+    state[5] = (e / 256 % 256) as u8;
+    state[6] = (e / 65536 % 256) as u8;
+    state[7] = (e / 16777216 % 256) as u8;
+}
+
+// Writes 54 bytes from a place on.
+fn put_registers(state: &mut [u8], at: usize, registers: [u8; 54])
+    requires { ⌜ at + 54 ≤ length (now state) ⌝ }
+    ensures { λ _. ⌜ now (state .exit) ≡ take at (now (state .entry)) ++ (registers ++ drop (at + 54) (now (state .entry))) ⌝ }
+{
+    for i in 0..54 {
+        state[at + i] = registers[i];
+    }
+}
+
+// Writes a record as its bytes.
+pub fn encode(c: Controller, state: &mut [u8])
+    requires { ⌜ length (now state) ≡ 116 ⌝ }
+    ensures { λ _. ⌜ now (state .exit) ≡ encoded c ⌝ }
+{
+    put_front(c, state);
+    let registers = c.registers;
+    put_registers(state, 8, registers);
+    let taken = c.taken;
+    put_registers(state, 62, taken);
+}

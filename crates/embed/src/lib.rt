@@ -1,0 +1,128 @@
+// What C and Rust call: the controller over numbers and byte slices, with the state record as 116 bytes (layout).
+// Each function answers the refusal's number * 2^32 + the value (answer). A refused call changes no byte it was lent.
+pub mod answer;
+pub mod layout;
+
+use answer::pack;
+use answer::refused;
+use controller::Controller;
+use controller::Element;
+use controller::ReadAnswer;
+use controller::Refusal;
+use controller::TickAnswer;
+use controller::WriteAnswer;
+use layout::STATE_LEN;
+use layout::decode;
+use layout::encode;
+use layout::is_record;
+use layout::wide;
+ghost use mathlib.Core.Path.{_≡_};
+ghost use mathlib.Core.List.{[]};
+ghost use Rattle.embed.specs.Exports.{called, resetBytes, readBytes, writeBytes, tickBytes, inspectBytes, drawn, pictureBytes};
+
+// Writes the reset record.
+#[no_mangle]
+pub extern "C" fn gulxinett_reset(state: &mut [u8]) -> u64
+    ensures { λ r. ⌜ called r (now (state .exit)) [] [] ≡ resetBytes (now (state .entry)) ⌝ }
+{
+    if state.len() != STATE_LEN {
+        return refused(Refusal::State);
+    }
+    encode(Controller::reset(), state);
+    pack(0, 0)
+}
+
+// Reads the byte at an address.
+#[no_mangle]
+pub extern "C" fn gulxinett_read(state: &[u8], rom: &[u8], ram: &[u8], address: u16) -> u64
+    ensures { λ r. ⌜ called r (now (state .entry)) (now (ram .entry)) [] ≡ readBytes (now (state .entry)) (now (rom .entry)) (now (ram .entry)) address ⌝ }
+{
+    if !is_record(state) {
+        return refused(Refusal::State);
+    }
+    let done = decode(state).read(rom, ram, address);
+    let answer = done.answer;
+    match answer {
+        ReadAnswer::Byte(b) => pack(0, wide(b)),
+        ReadAnswer::Refused(why) => refused(why),
+    }
+}
+
+// Writes a byte to an address; a start copies the image to the frame store.
+#[no_mangle]
+pub extern "C" fn gulxinett_write(
+    state: &mut [u8],
+    ram: &mut [u8],
+    store: &mut [u8],
+    image: &[u8],
+    address: u16,
+    value: u8,
+) -> u64
+    ensures { λ r. ⌜ called r (now (state .exit)) (now (ram .exit)) (now (store .exit)) ≡ writeBytes (now (state .entry)) (now (ram .entry)) (now (store .entry)) (now (image .entry)) address value ⌝ }
+{
+    if !is_record(state) {
+        return refused(Refusal::State);
+    }
+    let done = decode(state).write(ram, store, image, address, value);
+    let answer = done.answer;
+    match answer {
+        WriteAnswer::Done => {
+            let next = done.state;
+            encode(next, state);
+            pack(0, 0)
+        }
+        WriteAnswer::Refused(why) => refused(why),
+    }
+}
+
+// Lets cycles pass; it answers how many of them fell while a capture was running.
+#[no_mangle]
+pub extern "C" fn gulxinett_tick(state: &mut [u8], ram: &mut [u8], store: &[u8], cycles: u32) -> u64
+    ensures { λ r. ⌜ called r (now (state .exit)) (now (ram .exit)) (now (store .entry)) ≡ tickBytes (now (state .entry)) (now (ram .entry)) (now (store .entry)) cycles ⌝ }
+{
+    if !is_record(state) {
+        return refused(Refusal::State);
+    }
+    let done = decode(state).tick(ram, store, cycles);
+    let answer = done.answer;
+    match answer {
+        TickAnswer::Ran(ran) => {
+            let next = done.state;
+            encode(next, state);
+            pack(0, ran.0)
+        }
+        TickAnswer::Refused(why) => refused(why),
+    }
+}
+
+// Looks for the first element of the current matrix whose three values don't rise or stay level.
+#[no_mangle]
+pub extern "C" fn gulxinett_inspect(state: &[u8]) -> u64
+    ensures { λ r. ⌜ r ≡ inspectBytes (now (state .entry)) ⌝ }
+{
+    if !is_record(state) {
+        return refused(Refusal::State);
+    }
+    let element = decode(state).inspect();
+    match element {
+        Element::At(row, column) => pack(0, 0x100 + 16 * wide(row) + wide(column)),
+        Element::Level => pack(0, 0),
+        Element::Refused(why) => refused(why),
+    }
+}
+
+// Draws the whole picture of a frame under 54 registers taken.
+#[no_mangle]
+pub extern "C" fn gulxinett_picture(
+    frame: &[u8],
+    registers: &[u8; 54],
+    picture: &mut [u8; 3584],
+) -> u64
+    ensures { λ r. ⌜ drawn r (now (picture .exit)) ≡ pictureBytes (now (frame .entry)) (now (registers .entry)) (now (picture .entry)) ⌝ }
+{
+    let answer = Controller::picture(frame, *registers, picture);
+    match answer {
+        WriteAnswer::Done => pack(0, 0),
+        WriteAnswer::Refused(why) => refused(why),
+    }
+}

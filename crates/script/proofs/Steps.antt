@@ -1,0 +1,79 @@
+-- One step of a session, frame by frame: laws of `rowTaken`, `frameStep` and `stepOf`. Assumes nothing.
+use mathlib.Core.Path.{_≡_, refl, ap, _∙_}
+use mathlib.Core.List.{List, [], _++_}
+use Prim.Native.Nat.{ℕ, zero, suc, _+_, _-_, _*_}
+use native.Mathlib.Numerals.{add-one}
+use native.Mathlib.Nat.{zero-add}
+use native.Mathlib.Omega.{arith}
+use lib.ListN.{length, drop, set, replicate}
+use Rattle.controller.specs.declared.Controller.{Controller}
+use Rattle.controller.specs.declared.Refusal.the-variants as refusals
+use Rattle.controller.specs.State.{resetState}
+use Rattle.controller.specs.Outcome.{numberOf}
+use Rattle.controller.specs.Calls.{readMeans, writeMeans, tickMeans}
+use Rattle.script.specs.declared.line.Frame.{Frame}
+use Rattle.script.specs.declared.line.Frame.the-variants.{Reset, Read, Write, Tick, Row, Malformed}
+use Rattle.script.specs.declared.session.Obeyed.{Obeyed}
+use Rattle.script.specs.Line.{numberAt, frameOf}
+use Rattle.script.specs.Answer.{answerText, textOf, placed}
+use Rattle.script.specs.Session.{World, Step, world, step, rowTaken, rowImage, rowText, frameStep, stepOf}
+use Rattle.script.specs.Said.{Obeys, Printed, Saying, saying}
+
+-- one byte of a row more
+pub row-more : (line : List ℕ) (y n : ℕ) (image : List ℕ) → rowTaken line y (n + 1) image ≡ set (rowTaken line y n image) (128 * y + n) (numberAt line (4 + 2 * n) 2)
+unfolding rowTaken
+row-more line y n image = simp add-one
+
+same : (c d : Controller) (ram ram′ store store′ image image′ t t′ : List ℕ) → c ≡ d → ram ≡ ram′ → store ≡ store′ → image ≡ image′ → t ≡ t′
+    → step (world c ram store image) t ≡ step (world d ram′ store′ image′) t′
+same c d ram ram′ store store′ image image′ t t′ p q r s u = cc
+
+module _ (rom line : List ℕ) (c : Controller) (ram store image : List ℕ) where
+  abbrev before : World
+  before = world c ram store image
+
+  says : (f : Frame) → f ≡ frameOf line → frameStep rom line before f ≡ stepOf rom before line
+  unfolding stepOf
+  says f e = ap (frameStep rom line before) e
+
+  pub says-reset : {d : Controller} → d ≡ resetState → Reset ≡ frameOf line → (t : List ℕ) → t ≡ answerText 0 0 0 → step (world d ram store image) t ≡ stepOf rom before line
+  unfolding frameStep
+  says-reset p e t u = same _ _ _ _ _ _ _ _ _ _ p refl refl refl u ∙ says Reset e
+
+  pub says-malformed : Malformed ≡ frameOf line → (t : List ℕ) → t ≡ answerText (numberOf refusals.Line) 0 0 → step before t ≡ stepOf rom before line
+  unfolding frameStep
+  says-malformed e t u = ap (step before) u ∙ says Malformed e
+
+  pub says-row : (y : ℕ) → Row y ≡ frameOf line → (image′ t : List ℕ) → image′ ≡ rowImage line image y → t ≡ rowText image → step (world c ram store image′) t ≡ stepOf rom before line
+  unfolding frameStep
+  says-row y e image′ t p u = same _ _ _ _ _ _ _ _ _ _ refl refl refl p u ∙ says (Row y) e
+
+  pub says-read : (a : ℕ) → Read a ≡ frameOf line → (r : Obeyed) → Obeys 2 (readMeans c rom ram a) r ram [] → step (world (r .state) ram store image) (textOf (r .answer)) ≡ stepOf rom before line
+  unfolding frameStep
+  says-read a e r o = same _ _ _ _ _ _ _ _ _ _ (o .state) (o .ram) refl refl (o .text) ∙ says (Read a) e
+
+  pub says-write : (a v : ℕ) → Write a v ≡ frameOf line → (r : Obeyed) (ram′ store′ : List ℕ) → Obeys 0 (writeMeans c ram store image a v) r ram′ store′ → step (world (r .state) ram′ store′ image) (textOf (r .answer)) ≡ stepOf rom before line
+  unfolding frameStep
+  says-write a v e r ram′ store′ o = same _ _ _ _ _ _ _ _ _ _ (o .state) (o .ram) (o .store) refl (o .text) ∙ says (Write a v) e
+
+  pub says-tick : (n : ℕ) → Tick n ≡ frameOf line → (r : Obeyed) (ram′ : List ℕ) → Obeys 8 (tickMeans c ram store n) r ram′ store → step (world (r .state) ram′ store image) (textOf (r .answer)) ≡ stepOf rom before line
+  unfolding frameStep
+  says-tick n e r ram′ o = same _ _ _ _ _ _ _ _ _ _ (o .state) (o .ram) (o .store) refl (o .text) ∙ says (Tick n) e
+
+said-alike : (w w′ : World) (t t′ : List ℕ) (n n′ : ℕ) → w ≡ w′ → t ≡ t′ → n ≡ n′ → _≡_ {A = Saying} (record { world = w; text = t; length = n }) (record { world = w′; text = t′; length = n′ })
+said-alike w w′ t t′ n n′ p q r = cc
+
+drop-zeros : (m n : ℕ) → drop {A = ℕ} n (replicate m 0) ≡ replicate (m - n) 0
+drop-zeros zero zero = refl
+drop-zeros zero (suc n) = let e : 0 ≡ 0 - suc n = omega arith in ap (λ k. replicate {A = ℕ} k 0) e
+drop-zeros (suc m) zero = let e : suc m ≡ suc m - 0 = omega arith in ap (λ k. replicate {A = ℕ} k 0) e
+drop-zeros (suc m) (suc n) = let e : m - n ≡ suc m - suc n = omega arith in drop-zeros m n ∙ ap (λ k. replicate {A = ℕ} k 0) e
+
+-- a text put into eleven bytes that are 0
+pub saying-is : (s : Step) (w : World) (out : List ℕ) (n : ℕ) → Printed s w (replicate 11 0) 0 out n → _≡_ {A = Saying} (record { world = w; text = out; length = n }) (saying s)
+unfolding placed
+saying-is s w out n p =
+    let t : out ≡ s .text ++ replicate (11 - length (s .text)) 0 =
+    p .text ∙ ap (λ k. s .text ++ drop k (replicate 11 0)) (zero-add (length (s .text))) ∙ ap (λ r. s .text ++ r) (drop-zeros 11 (length (s .text))) in
+    let l : n ≡ length (s .text) = p .end ∙ zero-add (length (s .text)) in
+    said-alike _ _ _ _ _ _ (p .world) t l

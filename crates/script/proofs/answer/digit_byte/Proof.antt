@@ -1,0 +1,24 @@
+-- `script::answer::digit_byte` meets its contract: its test is the definition's. Assumes nothing.
+use borrow.Author.Tests.{lt-ltb, le-ltb}
+use borrow.Author.Needs.{needs}
+use Rattle.script.specs.Answer.{digitByte}
+use Rattle.script.proofs.answer.digit_byte.Statement.{statement}
+use Rattle.script.proofs.answer.digit_byte.Tie as tie
+
+returns : tie.Need-returns
+unfolding digitByte
+returns c = simp (lt-ltb _ _ (c .if1 .taken))
+
+returns-2 : tie.Need-returns-2
+unfolding digitByte
+returns-2 c = simp (le-ltb _ _ (c .if1 .left))
+
+pub digit-byte-spec : {M : Type 1} → statement M
+digit-byte-spec =
+    tie.close (tie.spec
+    (λ c. search needs)
+    (λ c. search needs)
+    returns
+    (λ c. search needs)
+    (λ c. search needs)
+    returns-2)

@@ -1,0 +1,78 @@
+-- `script::line::all_hex` meets its contract: the invariant is that the bytes read are digits. Assumes nothing.
+use mathlib.Core.Path.{_≡_, refl, sym, _∙_}
+use mathlib.Core.Bool.{true}
+use Prim.Native.Nat.{_≤_, _-_}
+use native.Mathlib.Omega.{arith}
+use borrow.Author.Needs.{needs}
+use Rattle.script.specs.Line.{hexPart}
+use Rattle.script.proofs.Digits.{both, some-digit, no-digit, hex-more, hex-stops}
+use Rattle.script.proofs.line.all_hex.Statement.{statement}
+use Rattle.script.proofs.line.all_hex.Tie as tie
+
+abbrev Inv-loop : tie.InvT-loop
+Inv-loop line at n i₀ i = (i ≤ n) × (hexPart line at i ≡ true)
+
+abbrev μ-loop : tie.MeasureT-loop
+μ-loop line at n i₀ i = n - i
+
+loop-holds : tie.Need-loop-holds Inv-loop μ-loop
+unfolding hexPart
+loop-holds c = (omega arith, refl)
+
+add-b : tie.Need-add-b Inv-loop μ-loop
+add-b c = omega arith
+
+shared-slice-read-b : tie.Need-shared-slice-read-b Inv-loop μ-loop
+shared-slice-read-b c = omega arith
+
+digit-of-requires : tie.Need-digit-of-requires Inv-loop μ-loop
+digit-of-requires c κs = search needs
+
+enum-told : tie.Need-enum-told Inv-loop μ-loop
+enum-told c = search needs
+
+enum-told-2 : tie.Need-enum-told-2 Inv-loop μ-loop
+enum-told-2 c = search needs
+
+returns : tie.Need-returns Inv-loop μ-loop
+returns c =
+    let a = c .before .before .before .before .before .before .before .args in
+    let l = c .before .before .before .before .before .loop in
+    sym (hex-stops (a .line .now) (a .at) (l .i) (a .n) (omega arith) (no-digit _ _ (c .before .before .digit-of .ensures) (c .enum-told2 .given .1)))
+
+add-i : tie.Need-add-i Inv-loop μ-loop
+add-i c = omega arith
+
+loop-less : tie.Need-loop-less Inv-loop μ-loop
+loop-less c = omega arith
+
+loop-again : tie.Need-loop-again Inv-loop μ-loop
+loop-again c =
+    let a = c .before .before .before .before .before .before .before .args in
+    let l = c .before .before .before .before .before .loop in
+    (omega arith, hex-more (a .line .now) (a .at) (l .i) ∙ both _ _ (l .inv .1) (some-digit _ _ _ (c .before .before .digit-of .ensures) (c .enum-told .given .1) .0))
+
+returns-2 : tie.Need-returns-2 Inv-loop μ-loop
+returns-2 c =
+    let a = c .before .before .before .args in
+    let l = c .before .loop in
+    let e : l .i ≡ a .n = omega arith in
+    sym (rw e at (l .inv .1))
+
+pub all-hex-spec : {M : Type 1} → statement M
+all-hex-spec =
+    tie.close
+    (tie.spec
+    Inv-loop
+    μ-loop
+    loop-holds
+    add-b
+    shared-slice-read-b
+    digit-of-requires
+    enum-told
+    enum-told-2
+    returns
+    add-i
+    loop-less
+    loop-again
+    returns-2)

@@ -1,0 +1,17 @@
+-- `script::session::byte_at` meets its contract: two digits are a byte. Assumes nothing.
+use mathlib.Core.Path.{sym, _∙_}
+use native.Mathlib.Omega.{arith}
+use borrow.Author.Needs.{needs}
+use Rattle.script.proofs.Digits.{none-of, some-of, clash}
+use Rattle.script.proofs.session.byte_at.Statement.{statement}
+use Rattle.script.proofs.session.byte_at.Tie as tie
+
+pub byte-at-spec : {M : Type 1} → statement M
+byte-at-spec =
+    tie.close (tie.spec
+    (λ c κs. search needs)
+    (λ c. search needs)
+    (λ c. search needs)
+    (λ c. absurd (clash (sym (none-of _ _ _ _ (c .before .before .number-at .ensures) (c .enum-told .given .1)) ∙ c .before .before .before .before .pre .1)))
+    (λ c. omega (arith, some-of _ _ _ _ _ (c .before .before .before .number-at .ensures) (c .before .byte .given .1)))
+    (λ c. some-of _ _ _ _ _ (c .before .before .before .number-at .ensures) (c .before .byte .given .1) .is))

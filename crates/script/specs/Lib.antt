@@ -1,0 +1,7 @@
+-- The meaning of the bus script.
+pub mod Line
+pub mod Answer
+pub mod Session
+pub mod Said
+pub mod Text
+pub mod Pieces

@@ -1,0 +1,271 @@
+// One step of a session: a line is carried out and answered.
+use super::answer::Answer;
+use super::answer::put_answer;
+use super::line::Frame;
+use super::line::Number;
+use super::line::frame_of;
+use super::line::number_at;
+use controller::Controller;
+use controller::ReadAnswer;
+use controller::Refusal;
+use controller::TickAnswer;
+use controller::WriteAnswer;
+ghost use mathlib.Core.Path.{_≡_};
+ghost use mathlib.Core.Bool.{true};
+ghost use mathlib.Core.List.{[]};
+ghost use Prim.Native.Nat.{_+_, _*_, _≤_, _<_};
+ghost use lib.ListN.{length};
+ghost use Rattle.controller.specs.Outcome.{numberOf, readNumber, readValue, writeNumber, tickNumber, tickValue};
+ghost use Rattle.controller.specs.Calls.{readMeans, writeMeans, tickMeans};
+ghost use Rattle.script.specs.Line.{hexPart, numberAt, frameOf};
+ghost use Rattle.script.specs.Answer.{answerText, textOf};
+ghost use Rattle.script.specs.Session.{world, step, rowTaken, rowImage, rowText, stepOf};
+ghost use Rattle.script.specs.Said.{Obeys, Printed, said, saying};
+
+// The state after a line, and its answer.
+pub struct Obeyed {
+    pub state: Controller,
+    pub answer: Answer,
+}
+
+// The number of a refusal.
+fn number_of(r: Refusal) -> u32
+    ensures { λ n. ⌜ n ≡ numberOf r ⌝ }
+{
+    match r {
+        Refusal::State => 1,
+        Refusal::Rom => 2,
+        Refusal::Ram => 3,
+        Refusal::Frame => 4,
+        Refusal::Address => 5,
+        Refusal::Line => 6,
+    }
+}
+
+// A refusal prints its number alone.
+fn refused(r: Refusal) -> Answer
+    ensures { λ a. ⌜ (textOf a ≡ answerText (numberOf r) 0 0) × (a .digits ≤ 8) ⌝ }
+{
+    Answer {
+        number: number_of(r),
+        digits: 0,
+        value: 0,
+    }
+}
+
+// Nothing is refused and there is no value.
+fn done() -> Answer
+    ensures { λ a. ⌜ (textOf a ≡ answerText 0 0 0) × (a .digits ≤ 8) ⌝ }
+{
+    Answer {
+        number: 0,
+        digits: 0,
+        value: 0,
+    }
+}
+
+// After a read the byte.
+fn read_answer(r: ReadAnswer) -> Answer
+    ensures { λ a. ⌜ (textOf a ≡ answerText (readNumber r) 2 (readValue r)) × (a .digits ≤ 8) ⌝ }
+{
+    match r {
+        ReadAnswer::Byte(b) => Answer {
+            number: 0,
+            digits: 2,
+            value: b as u32,
+        },
+        ReadAnswer::Refused(n) => refused(n),
+    }
+}
+
+// After a write nothing but the number.
+fn write_answer(r: WriteAnswer) -> Answer
+    ensures { λ a. ⌜ (textOf a ≡ answerText (writeNumber r) 0 0) × (a .digits ≤ 8) ⌝ }
+{
+    match r {
+        WriteAnswer::Done => done(),
+        WriteAnswer::Refused(n) => refused(n),
+    }
+}
+
+// After a tick eight digits of running cycles.
+fn tick_answer(r: TickAnswer) -> Answer
+    ensures { λ a. ⌜ (textOf a ≡ answerText (tickNumber r) 8 (tickValue r)) × (a .digits ≤ 8) ⌝ }
+{
+    match r {
+        TickAnswer::Ran(n) => Answer {
+            number: 0,
+            digits: 8,
+            value: n.0,
+        },
+        TickAnswer::Refused(n) => refused(n),
+    }
+}
+
+// The byte that two digits of a line spell.
+fn byte_at(line: &[u8], at: usize) -> u8
+    requires { ⌜ (at + 2 ≤ length (now line)) × (hexPart (now line) at 2 ≡ true) ⌝ }
+    ensures { λ r. ⌜ r ≡ numberAt (now (line .entry)) at 2 ⌝ }
+{
+    let byte = number_at(line, at, 2);
+    let Number::Value(b) = byte else {
+        return 0;
+    };
+    b as u8
+}
+
+// Takes the 128 bytes of row y from a line.
+fn take_row(image: &mut [u8], line: &[u8], y: usize)
+    requires { ⌜ (length (now line) ≡ 260) × (hexPart (now line) 0 260 ≡ true) × (128 * y + 128 ≤ length (now image)) ⌝ }
+    ensures { λ _. ⌜ now (image .exit) ≡ rowTaken (now (line .entry)) y 128 (now (image .entry)) ⌝ }
+{
+    let mut i = 0;
+    while i < 128 {
+        image[128 * y + i] = byte_at(line, 4 + 2 * i);
+        i += 1;
+    }
+}
+
+// A read, and the byte.
+fn do_read(state: Controller, rom: &[u8], ram: &[u8], address: u16) -> Obeyed
+    ensures { λ r. ⌜ Obeys 2 (readMeans state (now (rom .entry)) (now (ram .entry)) address) r (now (ram .entry)) [] ⌝ }
+{
+    let done = state.read(rom, ram, address);
+    let next = done.state;
+    let answer = done.answer;
+    Obeyed {
+        state: next,
+        answer: read_answer(answer),
+    }
+}
+
+// A write.
+fn do_write(
+    state: Controller,
+    ram: &mut [u8],
+    store: &mut [u8],
+    image: &[u8],
+    address: u16,
+    value: u8,
+) -> Obeyed
+    ensures { λ r. ⌜ Obeys 0 (writeMeans state (now (ram .entry)) (now (store .entry)) (now (image .entry)) address value) r (now (ram .exit)) (now (store .exit)) ⌝ }
+{
+    let done = state.write(ram, store, image, address, value);
+    let next = done.state;
+    let answer = done.answer;
+    Obeyed {
+        state: next,
+        answer: write_answer(answer),
+    }
+}
+
+// A tick, and the running cycles.
+fn do_tick(state: Controller, ram: &mut [u8], store: &[u8], n: u32) -> Obeyed
+    ensures { λ r. ⌜ Obeys 8 (tickMeans state (now (ram .entry)) (now (store .entry)) n) r (now (ram .exit)) (now (store .entry)) ⌝ }
+{
+    let done = state.tick(ram, store, n);
+    let next = done.state;
+    let answer = done.answer;
+    Obeyed {
+        state: next,
+        answer: tick_answer(answer),
+    }
+}
+
+// An image row: refused where the image is not 16,384 bytes.
+fn do_row(image: &mut [u8], line: &[u8], y: u8) -> Answer
+    requires { ⌜ frameOf (now line) ≡ Frame.Row y ⌝ }
+    ensures { λ a. ⌜ (now (image .exit) ≡ rowImage (now (line .entry)) (now (image .entry)) y) × (textOf a ≡ rowText (now (image .entry))) × (a .digits ≤ 8) ⌝ }
+{
+    if image.len() != Controller::FRAME {
+        return refused(Refusal::Frame);
+    }
+    take_row(image, line, y as usize);
+    done()
+}
+
+// Carries out a line.
+pub(crate) fn obey(
+    state: Controller,
+    rom: &[u8],
+    ram: &mut [u8],
+    store: &mut [u8],
+    image: &mut [u8],
+    line: &[u8],
+) -> Obeyed
+    ensures { λ r. ⌜ (step (world (r .state) (now (ram .exit)) (now (store .exit)) (now (image .exit))) (textOf (r .answer)) ≡ stepOf (now (rom .entry)) (world state (now (ram .entry)) (now (store .entry)) (now (image .entry))) (now (line .entry))) × (r .answer .digits ≤ 8) ⌝ }
+{
+    let frame = frame_of(line);
+    match frame {
+        Frame::Reset => Obeyed {
+            state: Controller::reset(),
+            answer: done(),
+        },
+        Frame::Read(a) => do_read(state, rom, ram, a),
+        Frame::Write(a, v) => do_write(state, ram, store, image, a, v),
+        Frame::Tick(n) => do_tick(state, ram, store, n),
+        Frame::Row(y) => Obeyed {
+            state,
+            answer: do_row(image, line, y),
+        },
+        Frame::Malformed => Obeyed {
+            state,
+            answer: refused(Refusal::Line),
+        },
+    }
+}
+
+// The state after a line, and where its answer ends in the buffer.
+pub struct LineDone {
+    pub state: Controller,
+    pub end: usize,
+}
+
+// Carries out a line and puts its answer into a buffer.
+pub(crate) fn line_done(
+    state: Controller,
+    rom: &[u8],
+    ram: &mut [u8],
+    store: &mut [u8],
+    image: &mut [u8],
+    line: &[u8],
+    out: &mut [u8],
+    at: usize,
+) -> LineDone
+    requires { ⌜ at + 11 ≤ length (now out) ⌝ }
+    ensures { λ r. ⌜ Printed (stepOf (now (rom .entry)) (world state (now (ram .entry)) (now (store .entry)) (now (image .entry))) (now (line .entry))) (world (r .state) (now (ram .exit)) (now (store .exit)) (now (image .exit))) (now (out .entry)) at (now (out .exit)) (r .end) ⌝ }
+{
+    let obeyed = obey(state, rom, ram, store, image, line);
+    let next = obeyed.state;
+    let answer = obeyed.answer;
+    let end = put_answer(out, at, answer);
+    LineDone { state: next, end }
+}
+
+// A line's answer: so many of the bytes of `text`, and the others 0.
+pub struct Stepped {
+    pub state: Controller,
+    pub text: [u8; 11],
+    pub length: usize,
+}
+
+// One step of a session: a line, without its LF, is carried out and answered.
+pub fn step(
+    state: Controller,
+    rom: &[u8],
+    ram: &mut [u8],
+    store: &mut [u8],
+    image: &mut [u8],
+    line: &[u8],
+) -> Stepped
+    ensures { λ r. ⌜ (said r (now (ram .exit)) (now (store .exit)) (now (image .exit)) ≡ saying (stepOf (now (rom .entry)) (world state (now (ram .entry)) (now (store .entry)) (now (image .entry))) (now (line .entry)))) × (r .length ≤ 11) ⌝ }
+{
+    let mut text = [0u8; 11];
+    let done = line_done(state, rom, ram, store, image, line, &mut text, 0);
+    let next = done.state;
+    Stepped {
+        state: next,
+        text,
+        length: done.end,
+    }
+}
