@@ -10,17 +10,11 @@ returns : tie.Need-returns
 unfolding isRecord
 returns c = simp (ne-eqb (length (c .before .args .state .now)) 116 (c .if1 .taken))
 
-shared-slice-read-if2 : tie.Need-shared-slice-read-if2
-shared-slice-read-if2 c = search needs
-
 returns-2 : tie.Need-returns-2
 unfolding isRecord
 returns-2 c =
     let s = c .before .before .before .args .state .now in
     simp (eq-eqb (length s) 116 (c .before .before .if1 .left), lt-leb (getD s 0 0) 1 (c .if2 .taken))
-
-shared-slice-read-result : tie.Need-shared-slice-read-result
-shared-slice-read-result c = search needs
 
 returns-3 : tie.Need-returns-3
 unfolding isRecord
@@ -30,4 +24,9 @@ returns-3 c =
 
 pub is-record-spec : {M : Type 1} → statement M
 is-record-spec =
-    tie.close (tie.spec returns shared-slice-read-if2 returns-2 shared-slice-read-result returns-3)
+    tie.close (tie.spec
+    returns
+    (λ c. search needs)
+    returns-2
+    (λ c. search needs)
+    returns-3)

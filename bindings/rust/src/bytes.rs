@@ -1,0 +1,111 @@
+//! The calls over the record's bytes, exactly as the C functions take and answer them.
+//!
+//! Bytes of another length than 116, or whose byte 0 or 3 is above 1, are refused as
+//! [`Refusal::State`].
+
+use crate::{ffi, Refusal, PICTURE_BYTES, REGISTERS};
+
+/// What a C function answers: refusal number × 2^32 + value.
+#[derive(Clone, Copy, Debug, PartialEq, Eq)]
+pub struct Answer(pub u64);
+
+impl Answer {
+    /// The value, or the refusal.
+    ///
+    /// # Panics
+    ///
+    /// If the number is none the interface has, which would be a fault of the archive.
+    pub fn result(self) -> Result<u32, Refusal> {
+        match (self.0 >> 32) as u32 {
+            0 => Ok(self.0 as u32),
+            number => Err(Refusal::from_number(number).expect("a refusal is 1 to 5")),
+        }
+    }
+}
+
+/// Writes the reset record.
+pub fn reset(state: &mut [u8]) -> Answer {
+    // SAFETY: the pointer and length are those of one slice, borrowed for the call.
+    Answer(unsafe { ffi::gulxinett_reset(state.as_mut_ptr(), state.len()) })
+}
+
+/// Reads the byte at an address; the value is the byte.
+pub fn read(state: &[u8], rom: &[u8], ram: &[u8], address: u16) -> Answer {
+    // SAFETY: each pointer and length are those of one slice, borrowed for the call.
+    Answer(unsafe {
+        ffi::gulxinett_read(
+            state.as_ptr(),
+            state.len(),
+            rom.as_ptr(),
+            rom.len(),
+            ram.as_ptr(),
+            ram.len(),
+            address,
+        )
+    })
+}
+
+/// Writes a byte to an address.
+pub fn write(
+    state: &mut [u8],
+    ram: &mut [u8],
+    store: &mut [u8],
+    image: &[u8],
+    address: u16,
+    value: u8,
+) -> Answer {
+    // SAFETY: each pointer and length are those of one slice, and the mutable ones are apart.
+    Answer(unsafe {
+        ffi::gulxinett_write(
+            state.as_mut_ptr(),
+            state.len(),
+            ram.as_mut_ptr(),
+            ram.len(),
+            store.as_mut_ptr(),
+            store.len(),
+            image.as_ptr(),
+            image.len(),
+            address,
+            value,
+        )
+    })
+}
+
+/// Lets cycles pass; the value is the running cycles.
+pub fn tick(state: &mut [u8], ram: &mut [u8], store: &[u8], cycles: u32) -> Answer {
+    // SAFETY: each pointer and length are those of one slice, and the mutable ones are apart.
+    Answer(unsafe {
+        ffi::gulxinett_tick(
+            state.as_mut_ptr(),
+            state.len(),
+            ram.as_mut_ptr(),
+            ram.len(),
+            store.as_ptr(),
+            store.len(),
+            cycles,
+        )
+    })
+}
+
+/// Inspects the matrix; the value is 0, or 100h + 16 × row + column of the first reversed element.
+pub fn inspect(state: &[u8]) -> Answer {
+    // SAFETY: the pointer and length are those of one slice, borrowed for the call.
+    Answer(unsafe { ffi::gulxinett_inspect(state.as_ptr(), state.len()) })
+}
+
+/// Draws the whole picture of a frame under the registers taken.
+pub fn picture(
+    frame: &[u8],
+    registers: &[u8; REGISTERS],
+    picture: &mut [u8; PICTURE_BYTES],
+) -> Answer {
+    // SAFETY: the frame is one slice, and the arrays have the sizes the function expects.
+    Answer(unsafe {
+        ffi::gulxinett_picture(
+            frame.as_ptr(),
+            frame.len(),
+            registers.as_ptr(),
+            picture.as_mut_ptr(),
+        )
+    })
+}

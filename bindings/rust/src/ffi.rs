@@ -1,0 +1,47 @@
+//! The C functions as the header declares them.
+
+extern "C" {
+    pub fn gulxinett_reset(state: *mut u8, state_len: usize) -> u64;
+
+    pub fn gulxinett_read(
+        state: *const u8,
+        state_len: usize,
+        rom: *const u8,
+        rom_len: usize,
+        ram: *const u8,
+        ram_len: usize,
+        address: u16,
+    ) -> u64;
+
+    pub fn gulxinett_write(
+        state: *mut u8,
+        state_len: usize,
+        ram: *mut u8,
+        ram_len: usize,
+        store: *mut u8,
+        store_len: usize,
+        image: *const u8,
+        image_len: usize,
+        address: u16,
+        value: u8,
+    ) -> u64;
+
+    pub fn gulxinett_tick(
+        state: *mut u8,
+        state_len: usize,
+        ram: *mut u8,
+        ram_len: usize,
+        store: *const u8,
+        store_len: usize,
+        cycles: u32,
+    ) -> u64;
+
+    pub fn gulxinett_inspect(state: *const u8, state_len: usize) -> u64;
+
+    pub fn gulxinett_picture(
+        frame: *const u8,
+        frame_len: usize,
+        registers: *const u8,
+        picture: *mut u8,
+    ) -> u64;
+}

@@ -1,0 +1,146 @@
+//! The Game Boy Camera cartridge controller (MAC-GBD), over the C functions of its archive.
+//!
+//! [`State`] is the record the controller keeps between calls. ROM, RAM, image and frame store
+//! belong to the caller and are lent to each call as slices:
+//!
+//! - ROM: 16,384 bytes times 1, 2, 4, 8, 16, 32 or 64, else [`Refusal::Rom`];
+//! - RAM: 8,192 bytes times 1, 2, 4, 8 or 16, else [`Refusal::Ram`];
+//! - image and frame store: 16,384 bytes each, else [`Refusal::Frame`].
+//!
+//! A refused call changes neither the state nor a byte lent. The lowest refusal is given.
+//! [`bytes`] has the same calls over the record's bytes, as the C functions take it.
+
+pub mod bytes;
+mod ffi;
+mod state;
+
+pub use state::State;
+
+/// Bytes of the state record.
+pub const STATE_BYTES: usize = 116;
+/// Camera registers.
+pub const REGISTERS: usize = 54;
+/// Bytes in one ROM bank.
+pub const ROM_BANK: usize = 16_384;
+/// Bytes in one RAM bank.
+pub const RAM_BANK: usize = 8_192;
+/// Bytes in an image and in the frame store: 128 rows of 128.
+pub const FRAME_BYTES: usize = 16_384;
+/// Bytes of a picture: two bits for each of 128 by 112 pixels.
+pub const PICTURE_BYTES: usize = 3_584;
+/// Where the picture lies in RAM bank 0.
+pub const PICTURE_OFFSET: usize = 0x100;
+
+/// Why a call is refused; the number of each case is the interface's.
+#[derive(Clone, Copy, Debug, PartialEq, Eq, PartialOrd, Ord)]
+#[repr(u8)]
+pub enum Refusal {
+    /// The state record can't exist.
+    State = 1,
+    /// The ROM length is not allowed.
+    Rom = 2,
+    /// The RAM length is not allowed.
+    Ram = 3,
+    /// The image or the frame store is not 16,384 bytes.
+    Frame = 4,
+    /// The address is outside 0000-7FFF and A000-BFFF.
+    Address = 5,
+}
+
+impl Refusal {
+    /// The interface's number, 1 to 5.
+    pub const fn number(self) -> u8 {
+        self as u8
+    }
+
+    /// The refusal of a number; none outside 1 to 5.
+    pub const fn from_number(number: u32) -> Option<Refusal> {
+        Some(match number {
+            1 => Refusal::State,
+            2 => Refusal::Rom,
+            3 => Refusal::Ram,
+            4 => Refusal::Frame,
+            5 => Refusal::Address,
+            _ => return None,
+        })
+    }
+}
+
+impl std::fmt::Display for Refusal {
+    fn fmt(&self, f: &mut std::fmt::Formatter<'_>) -> std::fmt::Result {
+        f.write_str(match self {
+            Refusal::State => "the state record can't exist",
+            Refusal::Rom => "the ROM length is not allowed",
+            Refusal::Ram => "the RAM length is not allowed",
+            Refusal::Frame => "the image or the frame store is not 16,384 bytes",
+            Refusal::Address => "the address is outside 0000-7FFF and A000-BFFF",
+        })
+    }
+}
+
+impl std::error::Error for Refusal {}
+
+/// An element of the 4 by 4 matrix.
+#[derive(Clone, Copy, Debug, PartialEq, Eq)]
+pub struct Element {
+    /// Row, 0 to 3.
+    pub row: u8,
+    /// Column, 0 to 3.
+    pub column: u8,
+}
+
+/// The state after reset: write enable off, ROM bank 1, select 0, registers 0, no capture held.
+pub fn reset() -> State {
+    let mut record = [0; STATE_BYTES];
+    let refused = bytes::reset(&mut record).result().is_err();
+    assert!(!refused, "a record of 116 bytes is reset");
+    State::decode(&record).expect("reset writes a record")
+}
+
+/// Reads the byte at an address.
+pub fn read(state: &State, rom: &[u8], ram: &[u8], address: u16) -> Result<u8, Refusal> {
+    let value = bytes::read(&state.encode(), rom, ram, address).result()?;
+    Ok(value as u8)
+}
+
+/// Writes a byte to an address; a start copies the image to the frame store.
+pub fn write(
+    state: &mut State,
+    ram: &mut [u8],
+    store: &mut [u8],
+    image: &[u8],
+    address: u16,
+    value: u8,
+) -> Result<(), Refusal> {
+    let mut record = state.encode();
+    bytes::write(&mut record, ram, store, image, address, value).result()?;
+    state.take(&record);
+    Ok(())
+}
+
+/// Lets cycles pass; returns how many fell while a capture was running.
+pub fn tick(state: &mut State, ram: &mut [u8], store: &[u8], cycles: u32) -> Result<u32, Refusal> {
+    let mut record = state.encode();
+    let running = bytes::tick(&mut record, ram, store, cycles).result()?;
+    state.take(&record);
+    Ok(running)
+}
+
+/// The first element of the current matrix, by rows and then columns, whose three values don't
+/// rise or stay level.
+pub fn inspect(state: &State) -> Result<Option<Element>, Refusal> {
+    let value = bytes::inspect(&state.encode()).result()?;
+    let element = Element {
+        row: (value >> 4 & 15) as u8,
+        column: (value & 15) as u8,
+    };
+    Ok((value != 0).then_some(element))
+}
+
+/// The whole picture of a frame under the registers taken, as RAM bank 0 gets it from offset
+/// 100h on.
+pub fn picture(frame: &[u8], registers: &[u8; REGISTERS]) -> Result<[u8; PICTURE_BYTES], Refusal> {
+    let mut picture = [0; PICTURE_BYTES];
+    bytes::picture(frame, registers, &mut picture).result()?;
+    Ok(picture)
+}

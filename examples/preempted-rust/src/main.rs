@@ -1,0 +1,186 @@
+//! A capture that is stopped half way, put in a file, and finished by another process.
+//!
+//! `preempted-rust begin FILE` starts a capture, ticks half of it, stops it and saves everything;
+//! `preempted-rust finish FILE` loads it, lends another image, changes the registers and resumes.
+//! The finished picture must be the one of the first image under the first registers.
+
+#![forbid(unsafe_code)]
+
+use gulxinett::{
+    picture, reset, tick, write, State, FRAME_BYTES, PICTURE_BYTES, PICTURE_OFFSET, RAM_BANK,
+    REGISTERS, STATE_BYTES,
+};
+use std::error::Error;
+use std::process::ExitCode;
+
+const TRIGGER: u16 = 0xA000;
+const TOTAL: u32 = 45_246;
+const HALF: u32 = TOTAL / 2;
+
+type Outcome<T> = Result<T, Box<dyn Error>>;
+
+/// What the cartridge keeps while no process runs.
+struct Cartridge {
+    state: State,
+    ram: Vec<u8>,
+    store: Vec<u8>,
+}
+
+impl Cartridge {
+    fn new() -> Self {
+        Cartridge {
+            state: reset(),
+            ram: vec![0; RAM_BANK],
+            store: vec![0; FRAME_BYTES],
+        }
+    }
+
+    fn load(path: &str) -> Outcome<Self> {
+        let saved = std::fs::read(path)?;
+        ensure(
+            saved.len() == STATE_BYTES + RAM_BANK + FRAME_BYTES,
+            "the file has another size",
+        )?;
+        let (record, memory) = saved.split_at(STATE_BYTES);
+        let (ram, store) = memory.split_at(RAM_BANK);
+        let state = State::decode(record.try_into()?).ok_or("the file holds no state record")?;
+        Ok(Cartridge {
+            state,
+            ram: ram.to_vec(),
+            store: store.to_vec(),
+        })
+    }
+
+    fn save(&self, path: &str) -> Outcome<()> {
+        Ok(std::fs::write(
+            path,
+            [&self.state.encode()[..], &self.ram, &self.store].concat(),
+        )?)
+    }
+
+    fn write(&mut self, image: &[u8], address: u16, value: u8) -> Outcome<()> {
+        let Cartridge { state, ram, store } = self;
+        Ok(write(state, ram, store, image, address, value)?)
+    }
+
+    /// Writes registers 1 to 53, then register 0.
+    fn write_registers(&mut self, image: &[u8], registers: &[u8; REGISTERS]) -> Outcome<()> {
+        for (address, value) in (TRIGGER..).zip(*registers).skip(1) {
+            self.write(image, address, value)?;
+        }
+        self.write(image, TRIGGER, registers[0])
+    }
+
+    fn run(&mut self, cycles: u32) -> Outcome<u32> {
+        Ok(tick(&mut self.state, &mut self.ram, &self.store, cycles)?)
+    }
+
+    fn plate(&self) -> &[u8] {
+        &self.ram[PICTURE_OFFSET..PICTURE_OFFSET + PICTURE_BYTES]
+    }
+}
+
+/// The first scene: rings of light around a corner.
+fn first_image() -> Vec<u8> {
+    (0..FRAME_BYTES)
+        .map(|i| ((i % 128).pow(2) + (i / 128).pow(2)) / 40)
+        .map(|v| v as u8)
+        .collect()
+}
+
+/// The second scene: stripes.
+fn second_image() -> Vec<u8> {
+    (0..FRAME_BYTES)
+        .map(|i| if i / 8 % 2 == 1 { 255 } else { 0 })
+        .collect()
+}
+
+/// Horizontal enhancement at 75 per cent, exposure 0300h, a rising matrix.
+fn first_registers() -> [u8; REGISTERS] {
+    let mut registers = [0; REGISTERS];
+    registers[..5].copy_from_slice(&[3, 0x20, 0x03, 0x00, 0x10]);
+    for (element, values) in registers[6..].chunks_exact_mut(3).enumerate() {
+        let least = 0x88 + 3 * element as u8;
+        values.copy_from_slice(&[least, least + 0x18, least + 0x30]);
+    }
+    registers
+}
+
+fn second_registers() -> [u8; REGISTERS] {
+    let mut registers = [0x55; REGISTERS];
+    registers[0] = 7;
+    registers
+}
+
+fn ensure(holds: bool, otherwise: &str) -> Outcome<()> {
+    if holds {
+        Ok(())
+    } else {
+        Err(otherwise.into())
+    }
+}
+
+fn begin(path: &str) -> Outcome<()> {
+    let mut cartridge = Cartridge::new();
+    let (image, registers) = (first_image(), first_registers());
+    cartridge.write(&image, 0x4000, 0x10)?;
+    cartridge.write_registers(&image, &registers)?;
+    ensure(
+        cartridge.run(HALF)? == HALF,
+        "the capture did not run half way",
+    )?;
+    cartridge.write(&image, TRIGGER, registers[0] & 6)?;
+    ensure(cartridge.run(1_000_000)? == 0, "a stopped capture ran on")?;
+    cartridge.save(path)?;
+    println!("begin: a capture ran {HALF} of {TOTAL} cycles and was stopped");
+    println!("begin: state, RAM and frame store saved");
+    Ok(())
+}
+
+fn finish(path: &str) -> Outcome<()> {
+    let mut cartridge = Cartridge::load(path)?;
+    let wanted = picture(&first_image(), &first_registers())?;
+    ensure(
+        cartridge.plate() != wanted,
+        "the picture was whole before the capture ended",
+    )?;
+    let (image, registers) = (second_image(), second_registers());
+    cartridge.write_registers(&image, &registers)?;
+    println!("finish: resumed with another image and other registers");
+    let cycles = cartridge.run(u32::MAX)?;
+    println!("finish: the capture ended after {cycles} more cycles");
+    ensure(
+        cycles == TOTAL - HALF,
+        "that is not the rest of the capture",
+    )?;
+    ensure(
+        cartridge.plate() == wanted,
+        "the picture is not that of the first image under the first registers",
+    )?;
+    let unwanted = picture(&image, &registers)?;
+    ensure(
+        cartridge.plate() != unwanted,
+        "the picture is that of the second image",
+    )?;
+    println!(
+        "finish: all {PICTURE_BYTES} bytes are those of the first image under the first registers"
+    );
+    Ok(())
+}
+
+fn main() -> ExitCode {
+    let arguments: Vec<String> = std::env::args().skip(1).collect();
+    let words: Vec<&str> = arguments.iter().map(String::as_str).collect();
+    let outcome = match words[..] {
+        ["begin", path] => begin(path),
+        ["finish", path] => finish(path),
+        _ => Err("usage: preempted-rust begin FILE | preempted-rust finish FILE".into()),
+    };
+    match outcome {
+        Ok(()) => ExitCode::SUCCESS,
+        Err(reason) => {
+            eprintln!("preempted-rust: {reason}");
+            ExitCode::FAILURE
+        }
+    }
+}

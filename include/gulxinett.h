@@ -1,0 +1,88 @@
+/* The Game Boy Camera cartridge controller, as C functions.
+ *
+ * The state record is 116 bytes, numbers little-endian:
+ *
+ *   offset  0       RAM write enable, 0 or 1
+ *   offset  1       ROM bank, 0 to 63
+ *   offset  2       RAM select, 0 to 31
+ *   offset  3       capture held, 0 or 1
+ *   offset  4.. 8   elapsed cycles, 32 bits
+ *   offset  8.. 62  the 54 registers
+ *   offset 62..116  the 54 registers taken at the start of the capture held
+ *
+ * Bytes of another length, or with offset 0 or 3 above 1, are no record and are refused as 1,
+ * exactly as a record that can't exist.
+ *
+ * Every function answers refusal number * 2^32 + value; number 0 means not refused, and a
+ * refusal has value 0. A refused call changes no byte it was lent. The refusals, lowest first:
+ *
+ *   1  the state record can't exist
+ *   2  the ROM length is not allowed (16,384 times 1, 2, 4, 8, 16, 32 or 64)
+ *   3  the RAM length is not allowed (8,192 times 1, 2, 4, 8 or 16)
+ *   4  the image or the frame store is not 16,384 bytes
+ *   5  the address is outside 0000-7FFF and A000-BFFF
+ *
+ * The memory lent to one call must not overlap, and is not kept after the call.
+ */
+#ifndef GULXINETT_H
+#define GULXINETT_H
+
+#include <stddef.h>
+#include <stdint.h>
+
+#ifdef __cplusplus
+extern "C" {
+#endif
+
+/* Sizes in bytes. */
+#define GULXINETT_STATE_LEN 116
+#define GULXINETT_REGISTERS_LEN 54
+#define GULXINETT_ROM_BANK_LEN 16384
+#define GULXINETT_RAM_BANK_LEN 8192
+#define GULXINETT_FRAME_LEN 16384
+#define GULXINETT_PICTURE_LEN 3584
+
+/* Where the picture lies in RAM bank 0. */
+#define GULXINETT_PICTURE_OFFSET 0x100
+
+/* The two halves of an answer. */
+#define GULXINETT_REFUSAL(answer) ((uint32_t)((uint64_t)(answer) >> 32))
+#define GULXINETT_VALUE(answer) ((uint32_t)(answer))
+
+/* Writes the reset record; refused as 1 if state_len is not 116. Value 0. */
+uint64_t gulxinett_reset(uint8_t *state, size_t state_len);
+
+/* Reads the byte at an address. Value: the byte. */
+uint64_t gulxinett_read(const uint8_t *state, size_t state_len,
+                        const uint8_t *rom, size_t rom_len,
+                        const uint8_t *ram, size_t ram_len,
+                        uint16_t address);
+
+/* Writes a byte to an address; a start copies the image to the frame store. Value 0. */
+uint64_t gulxinett_write(uint8_t *state, size_t state_len,
+                         uint8_t *ram, size_t ram_len,
+                         uint8_t *store, size_t store_len,
+                         const uint8_t *image, size_t image_len,
+                         uint16_t address, uint8_t value);
+
+/* Lets cycles pass. Value: how many of them fell while a capture was running. */
+uint64_t gulxinett_tick(uint8_t *state, size_t state_len,
+                        uint8_t *ram, size_t ram_len,
+                        const uint8_t *store, size_t store_len,
+                        uint32_t cycles);
+
+/* Looks for the first element of the current matrix, by rows and then columns, whose three
+ * values don't rise or stay level. Value: 0 if there is none, else 0x100 + 16 * row + column. */
+uint64_t gulxinett_inspect(const uint8_t *state, size_t state_len);
+
+/* Draws the whole picture of a frame under 54 registers taken, as RAM bank 0 gets it from
+ * offset 0x100 on. registers is exactly 54 bytes, picture exactly 3,584. Value 0. */
+uint64_t gulxinett_picture(const uint8_t *frame, size_t frame_len,
+                           const uint8_t *registers,
+                           uint8_t *picture);
+
+#ifdef __cplusplus
+}
+#endif
+
+#endif

@@ -1,0 +1,98 @@
+//! A long script through both programs.
+
+use crate::timing::{Effort, Spread, Table};
+use std::fs::File;
+use std::io::{self, Write};
+use std::path::{Path, PathBuf};
+use std::process::{Command, Stdio};
+use std::time::Instant;
+
+/// A file that is removed when it is no longer needed.
+struct Temporary(PathBuf);
+
+impl Drop for Temporary {
+    fn drop(&mut self) {
+        // Nothing is lost if it stays.
+        let _ = std::fs::remove_file(&self.0);
+    }
+}
+
+/// Times both programs on the same script, after seeing that they print the same.
+pub fn compare(proved: &str, second: &str, effort: Effort, table: Table) -> io::Result<()> {
+    let path = std::env::temp_dir().join(format!("script-{}.txt", std::process::id()));
+    let script = Temporary(path);
+    std::fs::write(&script.0, lines(effort.lines))?;
+    if output(proved, &script.0)? != output(second, &script.0)? {
+        return Err(io::Error::other("the two programs print different answers"));
+    }
+    let (mut proved_times, mut second_times) = (Vec::new(), Vec::new());
+    for _ in 0..effort.script_rounds {
+        proved_times.push(run(proved, &script.0)?);
+        second_times.push(run(second, &script.0)?);
+    }
+    let by = Spread::of_ratios(&proved_times, &second_times);
+    table.row(
+        &format!("script of {} lines", effort.lines),
+        Spread::of(proved_times).median,
+        Spread::of(second_times).median,
+        by,
+        None,
+    );
+    Ok(())
+}
+
+/// Reads, writes and small ticks, with a capture started again whenever one may have ended.
+fn lines(count: usize) -> Vec<u8> {
+    let mut script = Vec::with_capacity(count * 10);
+    for number in 0..count {
+        let line = match number % 10_000 {
+            0 => "02400010".into(),
+            1 => "02A00201".into(),
+            2 => "02A00003".into(),
+            5_000 => "02A00002".into(),
+            5_001 => "02400000".into(),
+            5_002 => "0200000A".into(),
+            _ => mixed(number as u32),
+        };
+        writeln!(script, "{line}").expect("memory takes it");
+    }
+    script
+}
+
+fn mixed(number: u32) -> String {
+    let noise = number.wrapping_mul(0x9E37_79B1) >> 7;
+    match noise % 10 {
+        0..=3 => format!("01{:04X}", 0xA100 + noise % 0xE00),
+        4 => format!("01{:04X}", noise % 0x8000),
+        5..=6 => format!("02{:04X}{:02X}", 0xA006 + noise % 0x30, noise & 0xFF),
+        7 => format!("02{:04X}{:02X}", 0x2000 + noise % 0x2000, noise & 0x3F),
+        _ => format!("03{:08X}", noise % 16),
+    }
+}
+
+/// A program, named with its arguments in words apart by spaces, that reads the script.
+fn command(program: &str, script: &Path) -> io::Result<Command> {
+    let mut words = program.split_whitespace();
+    let mut command = Command::new(words.next().unwrap_or_default());
+    command.args(words).stdin(File::open(script)?);
+    Ok(command)
+}
+
+fn output(program: &str, script: &Path) -> io::Result<Vec<u8>> {
+    Ok(command(program, script)?
+        .stderr(Stdio::inherit())
+        .output()?
+        .stdout)
+}
+
+/// Nanoseconds a program takes for the script.
+fn run(program: &str, script: &Path) -> io::Result<f64> {
+    let mut command = command(program, script)?;
+    let start = Instant::now();
+    let status = command.stdout(Stdio::null()).status()?;
+    let elapsed = start.elapsed();
+    if !status.success() {
+        return Err(io::Error::other(format!("{program} ends badly")));
+    }
+    Ok(elapsed.as_secs_f64() * 1e9)
+}

@@ -1,0 +1,186 @@
+//! The calls: bus reads and writes, the passing of cycles, and matrix inspection.
+
+use crate::{
+    picture, Refusal, State, Timing, FRAME_BYTES, PLATE_BYTES, PLATE_OFFSET, RAM_BANK, REGISTERS,
+    ROM_BANK,
+};
+
+const WINDOW: u16 = 0xA000;
+const REGISTER_MIRROR: usize = 0x80;
+
+/// The areas an address can fall in.
+#[derive(Clone, Copy)]
+enum Area {
+    /// 0000-7FFF.
+    Rom(u16),
+    /// A000-BFFF, with the offset in it.
+    Window(usize),
+}
+
+impl Area {
+    fn of(address: u16) -> Result<Area, Refusal> {
+        match address {
+            0x0000..=0x7FFF => Ok(Area::Rom(address)),
+            WINDOW..=0xBFFF => Ok(Area::Window((address - WINDOW).into())),
+            _ => Err(Refusal::Address),
+        }
+    }
+}
+
+/// Whether a length is one to `most` banks, their count a power of two.
+fn banked(length: usize, bank: usize, most: usize) -> bool {
+    let banks = length / bank;
+    length % bank == 0 && banks.is_power_of_two() && banks <= most
+}
+
+/// Refuses a ROM length that is not allowed.
+fn check_rom(rom: &[u8]) -> Result<(), Refusal> {
+    banked(rom.len(), ROM_BANK, 64)
+        .then_some(())
+        .ok_or(Refusal::Rom)
+}
+
+/// Refuses a RAM length that is not allowed.
+fn check_ram(ram: &[u8]) -> Result<(), Refusal> {
+    banked(ram.len(), RAM_BANK, 16)
+        .then_some(())
+        .ok_or(Refusal::Ram)
+}
+
+/// Refuses an image or frame store of another size.
+pub(crate) fn check_frame(frame: &[u8]) -> Result<(), Refusal> {
+    (frame.len() == FRAME_BYTES)
+        .then_some(())
+        .ok_or(Refusal::Frame)
+}
+
+/// Where in RAM the window shows an offset; banks repeat when there are fewer than 16.
+fn ram_place(state: &State, ram: &[u8], offset: usize) -> usize {
+    let bank = usize::from(state.ram_select % 16) % (ram.len() / RAM_BANK);
+    bank * RAM_BANK + offset
+}
+
+/// Reads the byte at an address.
+pub fn read(state: &State, rom: &[u8], ram: &[u8], address: u16) -> Result<u8, Refusal> {
+    state.check()?;
+    check_rom(rom)?;
+    check_ram(ram)?;
+    Ok(match Area::of(address)? {
+        Area::Rom(address) => rom[rom_place(state, rom, address.into())],
+        Area::Window(offset) if state.shows_registers() => read_register(state, offset),
+        Area::Window(_) if state.busy() => 0,
+        Area::Window(offset) => ram[ram_place(state, ram, offset)],
+    })
+}
+
+/// Where in ROM an address lies; banks repeat when there are fewer than 64.
+fn rom_place(state: &State, rom: &[u8], address: usize) -> usize {
+    if address < ROM_BANK {
+        return address;
+    }
+    let bank = usize::from(state.rom_bank) % (rom.len() / ROM_BANK);
+    bank * ROM_BANK + address % ROM_BANK
+}
+
+/// Only register 0 can be read back.
+fn read_register(state: &State, offset: usize) -> u8 {
+    if offset % REGISTER_MIRROR == 0 {
+        state.registers[0]
+    } else {
+        0
+    }
+}
+
+/// Writes a byte to an address; a start copies the image to the frame store.
+pub fn write(
+    state: &mut State,
+    ram: &mut [u8],
+    store: &mut [u8],
+    image: &[u8],
+    address: u16,
+    value: u8,
+) -> Result<(), Refusal> {
+    state.check()?;
+    check_ram(ram)?;
+    check_frame(store)?;
+    check_frame(image)?;
+    match Area::of(address)? {
+        Area::Rom(address) => write_control(state, address, value),
+        Area::Window(offset) if state.shows_registers() => {
+            if write_register(state, offset % REGISTER_MIRROR, value) {
+                store.copy_from_slice(image);
+            }
+        }
+        Area::Window(offset) => {
+            if state.ram_enabled && !state.busy() {
+                ram[ram_place(state, ram, offset)] = value;
+            }
+        }
+    }
+    Ok(())
+}
+
+/// A write below 8000 sets the write enable, the ROM bank or the select, or does nothing.
+fn write_control(state: &mut State, address: u16, value: u8) {
+    match (address >> 13, value) {
+        (0, 0x0A) => state.ram_enabled = true,
+        (0, 0x00) => state.ram_enabled = false,
+        (1, _) => state.rom_bank = value & 0x3F,
+        (2, _) => state.ram_select = value & 0x1F,
+        _ => {}
+    }
+}
+
+/// Writes a register and says whether that starts a capture.
+fn write_register(state: &mut State, register: usize, value: u8) -> bool {
+    match register {
+        0 => state.set_trigger(value),
+        1..REGISTERS => {
+            state.registers[register] = value;
+            false
+        }
+        _ => false,
+    }
+}
+
+/// Lets cycles pass; returns how many fell while a capture was running.
+pub fn tick(state: &mut State, ram: &mut [u8], store: &[u8], cycles: u32) -> Result<u32, Refusal> {
+    state.check()?;
+    check_ram(ram)?;
+    check_frame(store)?;
+    if !state.running() {
+        return Ok(0);
+    }
+    let timing = Timing::of(&state.taken);
+    let from = state.elapsed;
+    let to = from.saturating_add(cycles).min(timing.total());
+    let plate = &mut ram[PLATE_OFFSET..PLATE_OFFSET + PLATE_BYTES];
+    picture::draw(plate, store, &state.taken, timing.picture_pixels(from, to));
+    state.elapsed = to;
+    if to == timing.total() {
+        state.finish();
+    }
+    Ok(to - from)
+}
+
+/// An element of the 4 by 4 matrix.
+#[derive(Clone, Copy, Debug, PartialEq, Eq)]
+pub struct Element {
+    /// Row, 0 to 3.
+    pub row: u8,
+    /// Column, 0 to 3.
+    pub column: u8,
+}
+
+/// The first element of the current matrix whose three values don't rise or stay level.
+pub fn inspect(state: &State) -> Result<Option<Element>, Refusal> {
+    state.check()?;
+    let reversed = |element: &[u8]| element[0] > element[1] || element[1] > element[2];
+    let place = state.registers[picture::MATRIX..]
+        .chunks_exact(3)
+        .position(reversed);
+    Ok(place.map(|place| Element {
+        row: place as u8 / 4,
+        column: place as u8 % 4,
+    }))
+}

@@ -1,0 +1,35 @@
+//! The Game Boy Camera cartridge controller (MAC-GBD), written a second time from document 01 alone.
+//!
+//! [`State`] is the record the controller keeps; ROM, RAM, image and frame store are lent as slices.
+//! [`read`], [`write`], [`tick`], [`inspect`] and [`picture`] are the calls, [`Session`] is the bus script.
+
+#![forbid(unsafe_code)]
+
+mod bus;
+mod capture;
+mod lines;
+mod picture;
+mod refusal;
+mod script;
+mod state;
+#[cfg(test)]
+mod tests;
+
+pub use bus::{inspect, read, tick, write, Element};
+pub use capture::Timing;
+pub use lines::{Lines, LONGEST_LINE};
+pub use picture::{picture, Plate, PICTURE_HEIGHT, PICTURE_WIDTH, PLATE_BYTES, PLATE_OFFSET};
+pub use refusal::Refusal;
+pub use script::{Frame, Session};
+pub use state::{State, RECORD_BYTES, REGISTERS};
+
+/// Bytes in one ROM bank.
+pub const ROM_BANK: usize = 16_384;
+/// Bytes in one RAM bank.
+pub const RAM_BANK: usize = 8_192;
+/// Pixels in a row of the sensor.
+pub const SENSOR_WIDTH: usize = 128;
+/// Rows of the sensor.
+pub const SENSOR_HEIGHT: usize = 128;
+/// Bytes in an image and in the frame store.
+pub const FRAME_BYTES: usize = SENSOR_WIDTH * SENSOR_HEIGHT;

@@ -1,0 +1,26 @@
+//! Why a call is refused.
+
+/// A refusal; the number of each case is the paper's.
+#[derive(Clone, Copy, Debug, PartialEq, Eq, PartialOrd, Ord)]
+#[repr(u8)]
+pub enum Refusal {
+    /// The state record can't exist.
+    State = 1,
+    /// The ROM length is not allowed.
+    Rom = 2,
+    /// The RAM length is not allowed.
+    Ram = 3,
+    /// The image or the frame store is not 16,384 bytes.
+    Frame = 4,
+    /// The address is outside 0000-7FFF and A000-BFFF.
+    Address = 5,
+    /// A script line is malformed.
+    Line = 6,
+}
+
+impl Refusal {
+    /// The paper's number, 1 to 6.
+    pub const fn number(self) -> u8 {
+        self as u8
+    }
+}

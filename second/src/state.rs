@@ -1,0 +1,143 @@
+//! The state record.
+
+use crate::{Refusal, Timing};
+
+/// Camera registers.
+pub const REGISTERS: usize = 54;
+/// Bytes of the record as [`State::to_bytes`] lays it out.
+pub const RECORD_BYTES: usize = 8 + 2 * REGISTERS;
+
+const SELECT_REGISTERS: u8 = 0x10;
+const CAPTURE_BIT: u8 = 1;
+
+/// Everything the controller remembers between calls.
+#[derive(Clone, Copy, Debug, PartialEq, Eq)]
+pub struct State {
+    /// Writes to RAM land.
+    pub ram_enabled: bool,
+    /// ROM bank shown at 4000-7FFF, 0 to 63.
+    pub rom_bank: u8,
+    /// RAM bank or registers shown at A000-BFFF, 0 to 31.
+    pub ram_select: u8,
+    /// A capture is held, running or standing still.
+    pub held: bool,
+    /// Cycles the held capture has run.
+    pub elapsed: u32,
+    /// The registers as last written.
+    pub registers: [u8; REGISTERS],
+    /// The registers as taken when the held capture started.
+    pub taken: [u8; REGISTERS],
+}
+
+impl State {
+    /// The state after reset.
+    pub const RESET: State = State {
+        ram_enabled: false,
+        rom_bank: 1,
+        ram_select: 0,
+        held: false,
+        elapsed: 0,
+        registers: [0; REGISTERS],
+        taken: [0; REGISTERS],
+    };
+
+    /// Whether some history of calls could lead here, by the paper's list.
+    pub fn can_exist(&self) -> bool {
+        let small = self.rom_bank <= 63 && self.ram_select <= 31 && self.registers[0] <= 7;
+        small
+            && if self.held {
+                self.held_fits()
+            } else {
+                self.free_fits()
+            }
+    }
+
+    fn held_fits(&self) -> bool {
+        let start = self.taken[0];
+        start <= 7 && start & CAPTURE_BIT != 0 && self.elapsed < Timing::of(&self.taken).total()
+    }
+
+    fn free_fits(&self) -> bool {
+        !self.busy() && self.elapsed == 0 && self.taken == [0; REGISTERS]
+    }
+
+    /// Refuses a record that can't exist.
+    pub(crate) fn check(&self) -> Result<(), Refusal> {
+        if self.can_exist() {
+            Ok(())
+        } else {
+            Err(Refusal::State)
+        }
+    }
+
+    /// Register 0 has bit 0 set.
+    pub fn busy(&self) -> bool {
+        self.registers[0] & CAPTURE_BIT != 0
+    }
+
+    /// A capture is held and not standing still.
+    pub fn running(&self) -> bool {
+        self.held && self.busy()
+    }
+
+    /// A000-BFFF shows the registers instead of RAM.
+    pub(crate) fn shows_registers(&self) -> bool {
+        self.ram_select & SELECT_REGISTERS != 0
+    }
+
+    /// Stores register 0 and says whether that starts a capture.
+    pub(crate) fn set_trigger(&mut self, value: u8) -> bool {
+        self.registers[0] = value & 7;
+        let starts = self.busy() && !self.held;
+        if starts {
+            self.held = true;
+            self.elapsed = 0;
+            self.taken = self.registers;
+        }
+        starts
+    }
+
+    /// Lets go of a capture that has reached its total.
+    pub(crate) fn finish(&mut self) {
+        self.registers[0] &= !CAPTURE_BIT;
+        self.held = false;
+        self.elapsed = 0;
+        self.taken = [0; REGISTERS];
+    }
+
+    /// The record as 116 bytes, numbers little-endian.
+    pub fn to_bytes(&self) -> [u8; RECORD_BYTES] {
+        let mut bytes = [0; RECORD_BYTES];
+        bytes[0] = self.ram_enabled.into();
+        bytes[1] = self.rom_bank;
+        bytes[2] = self.ram_select;
+        bytes[3] = self.held.into();
+        bytes[4..8].copy_from_slice(&self.elapsed.to_le_bytes());
+        bytes[8..62].copy_from_slice(&self.registers);
+        bytes[62..].copy_from_slice(&self.taken);
+        bytes
+    }
+
+    /// The record from its bytes; none for another length or a flag above 1.
+    pub fn from_bytes(bytes: &[u8]) -> Option<State> {
+        let bytes: &[u8; RECORD_BYTES] = bytes.try_into().ok()?;
+        if bytes[0] > 1 || bytes[3] > 1 {
+            return None;
+        }
+        Some(State {
+            ram_enabled: bytes[0] == 1,
+            rom_bank: bytes[1],
+            ram_select: bytes[2],
+            held: bytes[3] == 1,
+            elapsed: u32::from_le_bytes([bytes[4], bytes[5], bytes[6], bytes[7]]),
+            registers: bytes[8..62].try_into().ok()?,
+            taken: bytes[62..].try_into().ok()?,
+        })
+    }
+}
+
+impl Default for State {
+    fn default() -> Self {
+        State::RESET
+    }
+}

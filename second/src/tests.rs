@@ -1,0 +1,7 @@
+//! Tests: the paper's figures and session, a slow reading of the paper, and the edges of everything.
+
+mod calls;
+mod figures;
+mod lines;
+mod random;
+mod slow;

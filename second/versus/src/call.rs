@@ -1,0 +1,81 @@
+//! What a history is made of.
+
+use std::fmt;
+
+/// Memory the caller lends.
+#[derive(Clone, Copy, Debug, PartialEq, Eq)]
+pub enum Lent {
+    Rom,
+    Ram,
+    Store,
+    Image,
+}
+
+/// One step of a history: a call on both sides, or a change to what both are lent.
+#[derive(Clone, Debug)]
+pub enum Call {
+    Reset,
+    Read {
+        address: u16,
+    },
+    Write {
+        address: u16,
+        value: u8,
+    },
+    Tick {
+        cycles: u32,
+    },
+    Inspect,
+    /// The picture afresh of the image or the frame store.
+    Picture {
+        of: Lent,
+        registers: Box<[u8; 54]>,
+    },
+    /// Another image is lent from here on.
+    Image {
+        kind: u8,
+        seed: u64,
+    },
+    /// Memory of another length is lent from here on.
+    Lend {
+        what: Lent,
+        length: usize,
+    },
+    /// Other bytes stand for the state from here on.
+    Put {
+        record: Box<[u8]>,
+    },
+}
+
+impl Call {
+    /// Whether both sides are called, so that there is something to compare.
+    pub fn is_call(&self) -> bool {
+        !matches!(
+            self,
+            Call::Image { .. } | Call::Lend { .. } | Call::Put { .. }
+        )
+    }
+}
+
+pub fn hex(bytes: &[u8]) -> String {
+    bytes.iter().map(|byte| format!("{byte:02X}")).collect()
+}
+
+impl fmt::Display for Call {
+    /// Script frames where the script has them, words elsewhere.
+    fn fmt(&self, f: &mut fmt::Formatter<'_>) -> fmt::Result {
+        match self {
+            Call::Reset => write!(f, "00"),
+            Call::Read { address } => write!(f, "01{address:04X}"),
+            Call::Write { address, value } => write!(f, "02{address:04X}{value:02X}"),
+            Call::Tick { cycles } => write!(f, "03{cycles:08X}"),
+            Call::Inspect => write!(f, "inspect"),
+            Call::Picture { of, registers } => {
+                write!(f, "picture of {of:?} under {}", hex(&registers[..]))
+            }
+            Call::Image { kind, seed } => write!(f, "image of kind {kind}, seed {seed}"),
+            Call::Lend { what, length } => write!(f, "lend {what:?} of {length} bytes"),
+            Call::Put { record } => write!(f, "state {}", hex(record)),
+        }
+    }
+}

@@ -1,0 +1,241 @@
+//! The two sides: the archive and the second program, each with memory of its own.
+
+use crate::call::{hex, Call, Lent};
+use crate::random::Random;
+use gulxinett::bytes;
+use second::State;
+
+/// What the picture's bytes hold before a call draws it.
+const UNDRAWN: u8 = 0xA5;
+
+/// A refusal as the interface answers it.
+pub fn refused(number: u64) -> u64 {
+    number << 32
+}
+
+/// What one side is lent, and the record it handed back last.
+#[derive(Clone)]
+pub struct Side {
+    pub state: Vec<u8>,
+    pub rom: Vec<u8>,
+    pub ram: Vec<u8>,
+    pub store: Vec<u8>,
+    pub image: Vec<u8>,
+    pub picture: [u8; 3584],
+}
+
+impl Side {
+    fn lent(&mut self, what: Lent) -> &mut Vec<u8> {
+        match what {
+            Lent::Rom => &mut self.rom,
+            Lent::Ram => &mut self.ram,
+            Lent::Store => &mut self.store,
+            Lent::Image => &mut self.image,
+        }
+    }
+
+    /// Does what is no call, the same on both sides.
+    fn arrange(&mut self, call: &Call) {
+        match call {
+            Call::Image { kind, seed } => paint(&mut self.image, *kind, *seed),
+            Call::Lend { what, length } => self.lent(*what).resize(*length, 0x3C),
+            Call::Put { record } => self.state = record.to_vec(),
+            _ => {}
+        }
+    }
+
+    /// Calls the archive.
+    pub fn call_archive(&mut self, call: &Call) -> u64 {
+        let Side {
+            state,
+            rom,
+            ram,
+            store,
+            image,
+            picture,
+        } = self;
+        let answer = match call {
+            Call::Reset => bytes::reset(state),
+            Call::Read { address } => bytes::read(state, rom, ram, *address),
+            Call::Write { address, value } => {
+                bytes::write(state, ram, store, image, *address, *value)
+            }
+            Call::Tick { cycles } => bytes::tick(state, ram, store, *cycles),
+            Call::Inspect => bytes::inspect(state),
+            Call::Picture { of, registers } => {
+                let frame = if *of == Lent::Image { image } else { store };
+                picture.fill(UNDRAWN);
+                bytes::picture(frame, registers, picture)
+            }
+            _ => bytes::Answer(0),
+        };
+        answer.0
+    }
+
+    /// Calls the second program, answering as the interface does.
+    pub fn call_second(&mut self, call: &Call) -> u64 {
+        if let Call::Reset = call {
+            return self.reset_second();
+        }
+        if let Call::Picture { of, registers } = call {
+            return self.draw_second(*of, registers);
+        }
+        let Some(mut state) = State::from_bytes(&self.state) else {
+            return refused(1);
+        };
+        let Side {
+            rom,
+            ram,
+            store,
+            image,
+            ..
+        } = self;
+        let result = match call {
+            Call::Read { address } => second::read(&state, rom, ram, *address).map(u32::from),
+            Call::Write { address, value } => {
+                second::write(&mut state, ram, store, image, *address, *value).map(|()| 0)
+            }
+            Call::Tick { cycles } => second::tick(&mut state, ram, store, *cycles),
+            Call::Inspect => second::inspect(&state).map(|element| {
+                element.map_or(0, |e| 0x100 + 16 * u32::from(e.row) + u32::from(e.column))
+            }),
+            _ => Ok(0),
+        };
+        self.state.copy_from_slice(&state.to_bytes());
+        result.map_or_else(|refusal| refused(refusal.number().into()), u64::from)
+    }
+
+    fn reset_second(&mut self) -> u64 {
+        if self.state.len() != second::RECORD_BYTES {
+            return refused(1);
+        }
+        self.state.copy_from_slice(&State::RESET.to_bytes());
+        0
+    }
+
+    fn draw_second(&mut self, of: Lent, registers: &[u8; 54]) -> u64 {
+        self.picture.fill(UNDRAWN);
+        match second::picture(self.lent(of), registers) {
+            Ok(plate) => {
+                self.picture = plate;
+                0
+            }
+            Err(refusal) => refused(refusal.number().into()),
+        }
+    }
+}
+
+/// An image of some kind: noise, black and white, a slope, one shade, or soft noise.
+pub fn paint(image: &mut [u8], kind: u8, seed: u64) {
+    let mut random = Random::new(seed);
+    random.fill(image);
+    let shade = random.byte();
+    for (place, v) in image.iter_mut().enumerate() {
+        *v = match kind % 5 {
+            0 => *v,
+            1 => 0_u8.wrapping_sub(*v & 1),
+            2 => (place % 128 + place / 128) as u8 ^ shade,
+            3 => shade,
+            _ => shade.wrapping_add(*v & 31),
+        };
+    }
+}
+
+/// Where two sides part.
+pub fn parted(name: &str, archive: &[u8], second: &[u8]) -> Option<String> {
+    if archive == second {
+        return None;
+    }
+    if archive.len() != second.len() {
+        return Some(format!(
+            "{name}: {} and {} bytes",
+            archive.len(),
+            second.len()
+        ));
+    }
+    let place = archive.iter().zip(second).position(|(a, b)| a != b)?;
+    let (a, b) = (archive[place], second[place]);
+    Some(format!(
+        "{name} at {place:X}h: archive {a:02X}, second {b:02X}"
+    ))
+}
+
+/// Both sides, lent the same.
+pub struct Pair {
+    pub archive: Side,
+    pub second: Side,
+}
+
+/// How a history begins.
+#[derive(Clone, Copy, Debug)]
+pub struct Beginning {
+    pub rom_banks: usize,
+    pub ram_banks: usize,
+    pub seed: u64,
+}
+
+impl Pair {
+    pub fn new(beginning: &Beginning) -> Self {
+        let mut random = Random::new(beginning.seed);
+        let mut noise = |length| {
+            let mut bytes = vec![0; length];
+            random.fill(&mut bytes);
+            bytes
+        };
+        let side = Side {
+            state: State::RESET.to_bytes().to_vec(),
+            rom: noise(beginning.rom_banks * 16_384),
+            ram: noise(beginning.ram_banks * 8_192),
+            store: noise(16_384),
+            image: noise(16_384),
+            picture: [0; 3584],
+        };
+        Pair {
+            archive: side.clone(),
+            second: side,
+        }
+    }
+
+    /// Plays one step on both sides and says where they part.
+    pub fn play(&mut self, call: &Call) -> Result<u64, String> {
+        if !call.is_call() {
+            self.archive.arrange(call);
+            self.second.arrange(call);
+            return Ok(0);
+        }
+        let archive = self.archive.call_archive(call);
+        let second = self.second.call_second(call);
+        if archive != second {
+            return Err(format!("answer: archive {archive:X}h, second {second:X}h"));
+        }
+        self.parting(call).map_or(Ok(second), Err)
+    }
+
+    /// Compares the record and all the call was lent.
+    fn parting(&self, call: &Call) -> Option<String> {
+        let (a, b) = (&self.archive, &self.second);
+        let lent: &[(&str, &[u8], &[u8])] = match call {
+            Call::Read { .. } => &[("ROM", &a.rom, &b.rom), ("RAM", &a.ram, &b.ram)],
+            Call::Write { .. } => &[
+                ("RAM", &a.ram, &b.ram),
+                ("store", &a.store, &b.store),
+                ("image", &a.image, &b.image),
+            ],
+            Call::Tick { .. } => &[("RAM", &a.ram, &b.ram), ("store", &a.store, &b.store)],
+            Call::Picture {
+                of: Lent::Image, ..
+            } => &[
+                ("image", &a.image, &b.image),
+                ("picture", &a.picture, &b.picture),
+            ],
+            Call::Picture { .. } => &[
+                ("store", &a.store, &b.store),
+                ("picture", &a.picture, &b.picture),
+            ],
+            _ => &[],
+        };
+        let state = parted("state", &a.state, &b.state)
+            .map(|place| format!("{place}\n  {}\n  {}", hex(&a.state), hex(&b.state)));
+        state.or_else(|| lent.iter().find_map(|(name, a, b)| parted(name, a, b)))
+    }
+}

@@ -1,0 +1,330 @@
+//! Every combination of good and bad arguments, and every setting of the picture.
+
+use crate::call::{Call, Lent};
+use crate::random::Random;
+use crate::sides::{paint, parted, refused, Beginning, Pair, Side};
+use second::State;
+
+/// Something to lend or give, and whether it is to be refused.
+type Choice<T> = (T, bool);
+
+/// Counts comparisons and keeps the first differences.
+#[derive(Default)]
+pub struct Tally {
+    pub compared: u64,
+    pub differences: Vec<String>,
+}
+
+impl Tally {
+    /// Makes one call on both sides, which must answer alike, and with the refusal if one is due.
+    fn compare(&mut self, side: &Side, call: &Call, due: Option<u64>) {
+        self.compared += 1;
+        let mut archive = side.clone();
+        let mut second = side.clone();
+        let answers = [archive.call_archive(call), second.call_second(call)];
+        let due_now = due.map_or(answers[1] >> 32 == 0, |number| {
+            answers[1] == refused(number)
+        });
+        let parting = parted("state", &archive.state, &second.state)
+            .or_else(|| parted("ROM", &archive.rom, &second.rom))
+            .or_else(|| parted("RAM", &archive.ram, &second.ram))
+            .or_else(|| parted("store", &archive.store, &second.store))
+            .or_else(|| parted("image", &archive.image, &second.image))
+            .or_else(|| parted("picture", &archive.picture, &second.picture));
+        if answers[0] == answers[1] && due_now && parting.is_none() {
+            return;
+        }
+        let lengths = [&side.rom, &side.ram, &side.store, &side.image].map(|lent| lent.len());
+        self.differences.push(format!(
+            "{call}\n  lent ROM, RAM, store, image of {lengths:?} bytes, {}\n  \
+             answers: archive {:X}h, second {:X}h, refusal due: {due:?}; {}",
+            Call::Put {
+                record: side.state.clone().into()
+            },
+            answers[0],
+            answers[1],
+            parting.unwrap_or_default(),
+        ));
+    }
+}
+
+/// Records that are refused or not, one for each reason.
+fn records() -> Vec<Choice<Vec<u8>>> {
+    let free = State::RESET;
+    let mut held = State {
+        held: true,
+        elapsed: 5_000,
+        ram_select: 16,
+        ..free
+    };
+    (held.registers[0], held.taken[0], held.taken[3]) = (3, 5, 9);
+    let mut stopped = held;
+    stopped.registers[0] = 6;
+    let total = 32_958 + 16 * 9;
+    let patched = |state: State, patches: &[(usize, u8)]| {
+        let mut bytes = state.to_bytes().to_vec();
+        patches
+            .iter()
+            .for_each(|&(place, byte)| bytes[place] = byte);
+        bytes
+    };
+    let late = |elapsed: u32| {
+        let mut state = held;
+        state.elapsed = elapsed;
+        state.to_bytes().to_vec()
+    };
+    let mut records = Vec::new();
+    for good in [
+        patched(free, &[]),
+        patched(held, &[]),
+        patched(stopped, &[]),
+        patched(free, &[(0, 1), (1, 63), (2, 31), (8, 6), (61, 255)]),
+        patched(held, &[(115, 255), (61, 255), (0, 1)]),
+        late(total - 1),
+        late(0),
+    ] {
+        records.push((good, false));
+    }
+    for bad in [
+        patched(free, &[(1, 64)]),
+        patched(held, &[(1, 255)]),
+        patched(free, &[(2, 32)]),
+        patched(stopped, &[(2, 255)]),
+        patched(free, &[(8, 8)]),
+        patched(held, &[(8, 255)]),
+        patched(free, &[(8, 1)]),
+        patched(free, &[(8, 7)]),
+        patched(free, &[(4, 1)]),
+        patched(free, &[(7, 128)]),
+        patched(free, &[(62, 1)]),
+        patched(free, &[(115, 1)]),
+        patched(held, &[(62, 4)]),
+        patched(held, &[(62, 13)]),
+        patched(held, &[(0, 2)]),
+        patched(held, &[(3, 3)]),
+        patched(free, &[(0, 255)]),
+        patched(held, &[(3, 0)]),
+        late(total),
+        late(u32::MAX),
+        Vec::new(),
+        patched(free, &[])[..115].to_vec(),
+        [&patched(held, &[])[..], &[0]].concat(),
+    ] {
+        records.push((bad, true));
+    }
+    records
+}
+
+const ROMS: [Choice<usize>; 8] = [
+    (16_384, false),
+    (32_768, false),
+    (65_536, false),
+    (0, true),
+    (1, true),
+    (16_383, true),
+    (16_385, true),
+    (49_152, true),
+];
+const RAMS: [Choice<usize>; 8] = [
+    (8_192, false),
+    (16_384, false),
+    (32_768, false),
+    (0, true),
+    (8_191, true),
+    (8_193, true),
+    (12_288, true),
+    (24_576, true),
+];
+const FRAMES: [Choice<usize>; 5] = [
+    (16_384, false),
+    (0, true),
+    (16_383, true),
+    (16_385, true),
+    (32_768, true),
+];
+const ADDRESSES: [Choice<u16>; 9] = [
+    (0x0000, false),
+    (0x4000, false),
+    (0x7FFF, false),
+    (0xA000, false),
+    (0xBFFF, false),
+    (0x8000, true),
+    (0x9FFF, true),
+    (0xC000, true),
+    (0xFFFF, true),
+];
+
+/// The lowest refusal that is due.
+fn lowest(reasons: &[(u64, bool)]) -> Option<u64> {
+    reasons
+        .iter()
+        .filter(|(_, due)| *due)
+        .map(|(number, _)| *number)
+        .min()
+}
+
+fn lend(length: usize) -> Vec<u8> {
+    (0..length)
+        .map(|place| (place * 7 + place / 256) as u8)
+        .collect()
+}
+
+/// Each argument good or bad in each way: the lowest number wins, and nothing else changes.
+pub fn refusals(tally: &mut Tally) {
+    for (state, no_state) in records() {
+        let empty = Vec::new;
+        let mut side = Side {
+            state,
+            rom: empty(),
+            ram: empty(),
+            store: empty(),
+            image: empty(),
+            picture: [0; 3584],
+        };
+        let due = (side.state.len() != 116).then_some(1);
+        tally.compare(&side, &Call::Reset, due);
+        tally.compare(&side, &Call::Inspect, lowest(&[(1, no_state)]));
+        sweep_reads(tally, &mut side, no_state);
+        sweep_writes_and_ticks(tally, &mut side, no_state);
+    }
+    sweep_banks(tally);
+    sweep_frames(tally);
+}
+
+fn sweep_reads(tally: &mut Tally, side: &mut Side, no_state: bool) {
+    for (rom, no_rom) in ROMS {
+        side.rom = lend(rom);
+        for (ram, no_ram) in RAMS {
+            side.ram = lend(ram);
+            for (address, off) in ADDRESSES {
+                let due = lowest(&[(1, no_state), (2, no_rom), (3, no_ram), (5, off)]);
+                tally.compare(side, &Call::Read { address }, due);
+            }
+        }
+    }
+    side.rom.clear();
+}
+
+fn sweep_writes_and_ticks(tally: &mut Tally, side: &mut Side, no_state: bool) {
+    for (ram, no_ram) in RAMS {
+        side.ram = lend(ram);
+        for (store, no_store) in FRAMES {
+            side.store = lend(store);
+            let due = lowest(&[(1, no_state), (3, no_ram), (4, no_store)]);
+            for cycles in [0, 1, 4, 600] {
+                tally.compare(side, &Call::Tick { cycles }, due);
+            }
+            for (image, no_image) in FRAMES {
+                side.image = lend(image);
+                for (address, off) in ADDRESSES {
+                    let frames = (4, no_store || no_image);
+                    let due = lowest(&[(1, no_state), (3, no_ram), frames, (5, off)]);
+                    let value = 1;
+                    tally.compare(side, &Call::Write { address, value }, due);
+                }
+            }
+            side.image.clear();
+        }
+    }
+}
+
+/// Every count of banks up to twice the largest.
+fn sweep_banks(tally: &mut Tally) {
+    let good = Beginning {
+        rom_banks: 1,
+        ram_banks: 1,
+        seed: 1,
+    };
+    for banks in 0..=130 {
+        let mut side = Pair::new(&good).archive;
+        side.rom = lend(banks * 16_384);
+        let due = (![1, 2, 4, 8, 16, 32, 64].contains(&banks)).then_some(2);
+        tally.compare(&side, &Call::Read { address: 0x7FFF }, due);
+    }
+    for banks in 0..=34 {
+        let mut side = Pair::new(&good).archive;
+        side.ram = lend(banks * 8_192);
+        let due = (![1, 2, 4, 8, 16].contains(&banks)).then_some(3);
+        tally.compare(&side, &Call::Read { address: 0xBFFF }, due);
+        tally.compare(
+            &side,
+            &Call::Write {
+                address: 0xBFFF,
+                value: 5,
+            },
+            due,
+        );
+        tally.compare(&side, &Call::Tick { cycles: 5 }, due);
+    }
+}
+
+/// Frames of the wrong size leave the picture alone.
+fn sweep_frames(tally: &mut Tally) {
+    let mut side = Pair::new(&Beginning {
+        rom_banks: 1,
+        ram_banks: 1,
+        seed: 2,
+    })
+    .archive;
+    for (length, no_frame) in FRAMES {
+        side.image = lend(length);
+        let registers = Box::new([0x35; 54]);
+        let call = Call::Picture {
+            of: Lent::Image,
+            registers,
+        };
+        tally.compare(&side, &call, lowest(&[(4, no_frame)]));
+    }
+}
+
+/// The picture afresh under every mode, ratio, inversion and 1-D filter, and every value of
+/// registers 0 to 5.
+pub fn pictures(tally: &mut Tally, random: &mut Random) {
+    let mut side = Pair::new(&Beginning {
+        rom_banks: 1,
+        ram_banks: 1,
+        seed: 3,
+    })
+    .archive;
+    for setting in 0..1024 {
+        paint(&mut side.image, (setting % 5) as u8, random.next());
+        let mut registers = pleasant(random);
+        registers[0] = (setting >> 8 << 1 | 1) as u8;
+        registers[1] = registers[1] & 0x1F | (setting << 4 & 0xE0) as u8;
+        registers[4] = registers[4] & 7 | (setting << 7) as u8 | (setting >> 1 & 0x78) as u8;
+        draw(tally, &side, registers);
+    }
+    for place in 0..6 {
+        for value in 0..=255 {
+            paint(&mut side.image, value % 5, random.next());
+            let mut registers = pleasant(random);
+            registers[place] = value;
+            draw(tally, &side, registers);
+        }
+    }
+}
+
+fn draw(tally: &mut Tally, side: &Side, registers: [u8; 54]) {
+    let registers = Box::new(registers);
+    tally.compare(
+        side,
+        &Call::Picture {
+            of: Lent::Image,
+            registers,
+        },
+        None,
+    );
+}
+
+/// Random registers at an exposure that leaves pixels apart.
+fn pleasant(random: &mut Random) -> [u8; 54] {
+    let mut registers = [0; 54];
+    random.fill(&mut registers);
+    registers[2] = random.below(3) as u8;
+    if random.once_in(2) {
+        registers[6..]
+            .chunks_exact_mut(3)
+            .for_each(|element| element.sort());
+    }
+    registers
+}
