@@ -18,7 +18,7 @@ pub struct Eight {
 }
 
 // The eight pixels of picture row y from column 8 * t on. `set` is what `regs` ask.
-pub fn tile_row(frame: &[u8], set: Setting, regs: &[u8; 54], t: usize, y: usize) -> Eight
+pub(crate) fn tile_row(frame: &[u8], set: Setting, regs: &[u8; 54], t: usize, y: usize) -> Eight
     requires { ⌜ (length (now frame) ≡ 16384) × (t < 16) × (y < 112) ⌝ }
     requires { ⌜ Asked set (now regs) ⌝ }
     ensures { λ r. ⌜ (r .low ≡ lowByte (now (frame .entry)) (now (regs .entry)) t y) × (r .high ≡ highByte (now (frame .entry)) (now (regs .entry)) t y) ⌝ }
@@ -50,7 +50,7 @@ fn fill(frame: &[u8], set: Setting, regs: &[u8; 54], out: &mut [u8])
 }
 
 // Pixels j to j + 7 of the picture, which stand in the same two bytes.
-pub fn put_row(ram: &mut [u8], store: &[u8], set: Setting, regs: &[u8; 54], j: usize)
+pub(crate) fn put_row(ram: &mut [u8], store: &[u8], set: Setting, regs: &[u8; 54], j: usize)
     requires { ⌜ (8192 ≤ length (now ram)) × (length (now store) ≡ 16384) × (j % 8 ≡ 0) × (j + 8 ≤ 14336) ⌝ }
     requires { ⌜ Asked set (now regs) ⌝ }
     ensures { λ _. ⌜ now (ram .exit) ≡ pixels (now (store .entry)) (now (regs .entry)) j (j + 8) (now (ram .entry)) ⌝ }

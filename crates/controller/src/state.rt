@@ -12,21 +12,21 @@ ghost use Rattle.controller.specs.Timing.{totalOf};
 ghost use Rattle.controller.specs.State.{resetState, allZero, leftOver, wrongCapture, canExist};
 
 // A byte as a wider number, with its bound.
-pub fn wide(x: u8) -> u32
+pub(crate) fn wide(x: u8) -> u32
     ensures { λ r. ⌜ (r ≡ x) × (r < 256) ⌝ }
 {
     x as u32
 }
 
 // Exposure = A002 * 256 + A003.
-pub fn exposure(regs: &[u8; 54]) -> u32
+pub(crate) fn exposure(regs: &[u8; 54]) -> u32
     ensures { λ r. ⌜ (r ≡ exposureOf (now (regs .entry))) × (r < 65536) ⌝ }
 {
     wide(regs[2]) * 256 + wide(regs[3])
 }
 
 // Total cycles of a capture with these registers taken.
-pub fn total(regs: &[u8; 54]) -> Cycles
+pub(crate) fn total(regs: &[u8; 54]) -> Cycles
     ensures { λ r. ⌜ (r .0 ≡ totalOf (now (regs .entry))) × (r .0 < 2000000) ⌝ }
 {
     let timed = Controller::BASE + 16 * exposure(regs);
@@ -69,13 +69,13 @@ fn banks_allowed(len: usize, size: usize, most: usize) -> bool
     usize::count_ones(banks) == 1
 }
 
-pub fn rom_allowed(len: usize) -> bool
+pub(crate) fn rom_allowed(len: usize) -> bool
     ensures { λ r. ⌜ r ≡ romAllowed len ⌝ }
 {
     banks_allowed(len, Controller::ROM_BANK, 64)
 }
 
-pub fn ram_allowed(len: usize) -> bool
+pub(crate) fn ram_allowed(len: usize) -> bool
     ensures { λ r. ⌜ r ≡ ramAllowed len ⌝ }
 {
     banks_allowed(len, Controller::RAM_BANK, 16)

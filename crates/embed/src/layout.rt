@@ -55,7 +55,7 @@ fn registers_at(state: &[u8], at: usize) -> [u8; 54]
 }
 
 // The record of its bytes.
-pub fn decode(state: &[u8]) -> Controller
+pub(crate) fn decode(state: &[u8]) -> Controller
     requires { ⌜ isRecord (now state) ≡ true ⌝ }
     ensures { λ r. ⌜ r ≡ decoded (now (state .entry)) ⌝ }
 {
@@ -100,7 +100,7 @@ fn put_registers(state: &mut [u8], at: usize, registers: [u8; 54])
 }
 
 // Writes a record as its bytes.
-pub fn encode(c: Controller, state: &mut [u8])
+pub(crate) fn encode(c: Controller, state: &mut [u8])
     requires { ⌜ length (now state) ≡ 116 ⌝ }
     ensures { λ _. ⌜ now (state .exit) ≡ encoded c ⌝ }
 {
