@@ -1,4 +1,5 @@
 // A script line, without its LF, to the frame that it says.
+use super::reader::read_number;
 ghost use mathlib.Core.Path.{_≡_};
 ghost use mathlib.Core.Bool.{true};
 ghost use Prim.Native.Nat.{ℕ, _+_, _≤_, _<_};
@@ -45,7 +46,7 @@ pub fn digit_of(b: u8) -> Digit
     Digit::NotHex
 }
 
-// The number that n digits of a line, from `at` on, spell: at most eight.
+// The number that n digits of a line, from `at` on, spell: at most eight. The line reader calls it at its place.
 pub(crate) fn number_at(line: &[u8], at: usize, n: usize) -> Number
     requires { ⌜ (at + n ≤ length (now line)) × (n ≤ 8) ⌝ }
     ensures { λ r. ⌜ r ≡ numberOf (now (line .entry)) at n ⌝ }
@@ -82,7 +83,7 @@ fn read_line(line: &[u8]) -> Frame
     if line.len() != 6 {
         return Frame::Malformed;
     }
-    let address = number_at(line, 2, 4);
+    let address = read_number(line, 2, 4);
     let Number::Value(a) = address else {
         return Frame::Malformed;
     };
@@ -97,11 +98,11 @@ fn write_line(line: &[u8]) -> Frame
     if line.len() != 8 {
         return Frame::Malformed;
     }
-    let address = number_at(line, 2, 4);
+    let address = read_number(line, 2, 4);
     let Number::Value(a) = address else {
         return Frame::Malformed;
     };
-    let byte = number_at(line, 6, 2);
+    let byte = read_number(line, 6, 2);
     let Number::Value(b) = byte else {
         return Frame::Malformed;
     };
@@ -116,7 +117,7 @@ fn tick_line(line: &[u8]) -> Frame
     if line.len() != 10 {
         return Frame::Malformed;
     }
-    let count = number_at(line, 2, 8);
+    let count = read_number(line, 2, 8);
     let Number::Value(n) = count else {
         return Frame::Malformed;
     };
@@ -130,8 +131,8 @@ fn all_hex(line: &[u8], at: usize, n: usize) -> bool
 {
     let mut i = 0;
     while i < n {
-        let b = line[at + i];
-        let Digit::Value(_) = digit_of(b) else {
+        let digit = read_number(line, at + i, 1);
+        let Number::Value(_) = digit else {
             return false;
         };
         i += 1;
@@ -147,7 +148,7 @@ fn row_line(line: &[u8]) -> Frame
     if line.len() != 260 {
         return Frame::Malformed;
     }
-    let row = number_at(line, 2, 2);
+    let row = read_number(line, 2, 2);
     let Number::Value(y) = row else {
         return Frame::Malformed;
     };
@@ -167,7 +168,7 @@ pub fn frame_of(line: &[u8]) -> Frame
     if line.len() < 2 {
         return Frame::Malformed;
     }
-    let kind = number_at(line, 0, 2);
+    let kind = read_number(line, 0, 2);
     let Number::Value(k) = kind else {
         return Frame::Malformed;
     };

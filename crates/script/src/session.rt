@@ -4,7 +4,7 @@ use super::answer::put_answer;
 use super::line::Frame;
 use super::line::Number;
 use super::line::frame_of;
-use super::line::number_at;
+use super::reader::read_number;
 use controller::Controller;
 use controller::ReadAnswer;
 use controller::Refusal;
@@ -107,7 +107,7 @@ fn byte_at(line: &[u8], at: usize) -> u8
     requires { ⌜ (at + 2 ≤ length (now line)) × (hexPart (now line) at 2 ≡ true) ⌝ }
     ensures { λ r. ⌜ r ≡ numberAt (now (line .entry)) at 2 ⌝ }
 {
-    let byte = number_at(line, at, 2);
+    let byte = read_number(line, at, 2);
     let Number::Value(b) = byte else {
         return 0;
     };

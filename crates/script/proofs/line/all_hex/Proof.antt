@@ -1,11 +1,11 @@
 -- `script::line::all_hex` meets its contract: the invariant is that the bytes read are digits. Assumes nothing.
-use mathlib.Core.Path.{_≡_, refl, sym, _∙_}
+use mathlib.Core.Path.{_≡_, refl, sym, ap, _∙_}
 use mathlib.Core.Bool.{true}
-use Prim.Native.Nat.{_≤_, _-_}
+use Prim.Native.Nat.{_≤_, _+_, _-_}
 use native.Mathlib.Omega.{arith}
 use borrow.Author.Needs.{needs}
 use Rattle.script.specs.Line.{hexPart}
-use Rattle.script.proofs.Digits.{both, some-digit, no-digit, hex-more, hex-stops}
+use Rattle.script.proofs.Digits.{some-of, none-of, hex-joined, hex-broken, hex-fails}
 use Rattle.script.proofs.line.all_hex.Statement.{statement}
 use Rattle.script.proofs.line.all_hex.Tie as tie
 
@@ -19,14 +19,11 @@ loop-holds : tie.Need-loop-holds Inv-loop μ-loop
 unfolding hexPart
 loop-holds c = (omega arith, refl)
 
-add-b : tie.Need-add-b Inv-loop μ-loop
-add-b c = omega arith
+add-read-number : tie.Need-add-read-number Inv-loop μ-loop
+add-read-number c = omega arith
 
-shared-slice-read-b : tie.Need-shared-slice-read-b Inv-loop μ-loop
-shared-slice-read-b c = omega arith
-
-digit-of-requires : tie.Need-digit-of-requires Inv-loop μ-loop
-digit-of-requires c κs = search needs
+read-number-requires : tie.Need-read-number-requires Inv-loop μ-loop
+read-number-requires c κs = (omega arith, omega arith)
 
 enum-told : tie.Need-enum-told Inv-loop μ-loop
 enum-told c = search needs
@@ -36,9 +33,10 @@ enum-told-2 c = search needs
 
 returns : tie.Need-returns Inv-loop μ-loop
 returns c =
-    let a = c .before .before .before .before .before .before .before .args in
-    let l = c .before .before .before .before .before .loop in
-    sym (hex-stops (a .line .now) (a .at) (l .i) (a .n) (omega arith) (no-digit _ _ (c .before .before .digit-of .ensures) (c .enum-told2 .given .1)))
+    let a = c .before .before .before .before .before .before .args in
+    let l = c .before .before .before .before .loop in
+    let e : a .n ≡ (l .i + 1) + (a .n - (l .i + 1)) = omega arith in
+    sym (ap (hexPart (a .line .now) (a .at)) e ∙ hex-fails (a .line .now) (a .at) (l .i + 1) (a .n - (l .i + 1)) (hex-broken (a .line .now) (a .at) (l .i) 1 (l .inv .1) (none-of _ _ _ _ (c .before .before .read-number .ensures) (c .enum-told2 .given .1))))
 
 add-i : tie.Need-add-i Inv-loop μ-loop
 add-i c = omega arith
@@ -48,9 +46,9 @@ loop-less c = omega arith
 
 loop-again : tie.Need-loop-again Inv-loop μ-loop
 loop-again c =
-    let a = c .before .before .before .before .before .before .before .args in
-    let l = c .before .before .before .before .before .loop in
-    (omega arith, hex-more (a .line .now) (a .at) (l .i) ∙ both _ _ (l .inv .1) (some-digit _ _ _ (c .before .before .digit-of .ensures) (c .enum-told .given .1) .0))
+    let a = c .before .before .before .before .before .before .args in
+    let l = c .before .before .before .before .loop in
+    (omega arith, hex-joined (a .line .now) (a .at) (l .i) 1 (l .inv .1) (some-of _ _ _ _ _ (c .before .before .read-number .ensures) (c .enum-told .given .1) .hex))
 
 returns-2 : tie.Need-returns-2 Inv-loop μ-loop
 returns-2 c =
@@ -66,9 +64,8 @@ all-hex-spec =
     Inv-loop
     μ-loop
     loop-holds
-    add-b
-    shared-slice-read-b
-    digit-of-requires
+    add-read-number
+    read-number-requires
     enum-told
     enum-told-2
     returns

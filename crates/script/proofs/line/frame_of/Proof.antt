@@ -13,13 +13,13 @@ use Rattle.script.proofs.line.frame_of.Tie as tie
 
 -- the kind that was read
 kind : (c : tie.After-known-told) → Spells (c .before .before .before .before .before .before .args .line .now) 0 2 (c .before .kind .given .0 .0)
-kind c = some-of _ _ _ _ _ (c .before .before .before .number-at .ensures) (c .before .kind .given .1)
+kind c = some-of _ _ _ _ _ (c .before .before .before .read-number .ensures) (c .before .kind .given .1)
 
 returns-2 : tie.Need-returns-2
 returns-2 c =
     let l = c .before .before .before .before .before .args .line .now in
     let e : length l ≡ 2 + (length l - 2) = omega arith in
-    sym (bad l (rw e (hex-fails l 0 2 (length l - 2) (none-of _ _ _ _ (c .before .before .number-at .ensures) (c .enum-told .given .1)))))
+    sym (bad l (rw e (hex-fails l 0 2 (length l - 2) (none-of _ _ _ _ (c .before .before .read-number .ensures) (c .enum-told .given .1)))))
 
 returns-8 : tie.Need-returns-8
 unfolding spelled

@@ -12,7 +12,7 @@ use Rattle.script.proofs.line.row_line.Tie as tie
 
 -- the row that was read
 row : (c : tie.After-known-told) → Spells (c .before .before .before .before .before .before .args .line .now) 2 2 (c .before .row .given .0 .0)
-row c = some-of _ _ _ _ _ (c .before .before .before .number-at .ensures) (c .before .row .given .1)
+row c = some-of _ _ _ _ _ (c .before .before .before .read-number .ensures) (c .before .row .given .1)
 
 returns : tie.Need-returns
 unfolding spelled
@@ -23,7 +23,7 @@ returns-2 c =
     let s = c .before .before .before .before .before in
     let l = s .args .line .now in
     let e : length l ≡ 260 = omega arith in
-    sym (bad _ (rw e (hex-fails l 0 4 256 (hex-broken l 0 2 2 (s .pre .0) (none-of _ _ _ _ (c .before .before .number-at .ensures) (c .enum-told .given .1))))))
+    sym (bad _ (rw e (hex-fails l 0 4 256 (hex-broken l 0 2 2 (s .pre .0) (none-of _ _ _ _ (c .before .before .read-number .ensures) (c .enum-told .given .1))))))
 
 returns-3 : tie.Need-returns-3
 unfolding spelled

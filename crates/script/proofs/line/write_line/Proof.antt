@@ -12,10 +12,10 @@ use Rattle.script.proofs.line.write_line.Tie as tie
 
 -- the address and the byte that were read
 address : (c : tie.After-known-told) → Spells (c .before .before .before .before .before .before .args .line .now) 2 4 (c .before .address .given .0 .0)
-address c = some-of _ _ _ _ _ (c .before .before .before .number-at .ensures) (c .before .address .given .1)
+address c = some-of _ _ _ _ _ (c .before .before .before .read-number .ensures) (c .before .address .given .1)
 
 byte : (c : tie.After-known-told2) → Spells (c .before .before .before .before .before .before .before .before .before .before .args .line .now) 6 2 (c .before .byte .given .0 .0)
-byte c = some-of _ _ _ _ _ (c .before .before .before .number-at2 .ensures) (c .before .byte .given .1)
+byte c = some-of _ _ _ _ _ (c .before .before .before .read-number2 .ensures) (c .before .byte .given .1)
 
 returns : tie.Need-returns
 unfolding spelled
@@ -26,14 +26,14 @@ returns-2 c =
     let s = c .before .before .before .before .before in
     let l = s .args .line .now in
     let e : length l ≡ 8 = omega arith in
-    sym (bad _ (rw e (hex-fails l 0 6 2 (hex-broken l 0 2 4 (s .pre .0) (none-of _ _ _ _ (c .before .before .number-at .ensures) (c .enum-told .given .1))))))
+    sym (bad _ (rw e (hex-fails l 0 6 2 (hex-broken l 0 2 4 (s .pre .0) (none-of _ _ _ _ (c .before .before .read-number .ensures) (c .enum-told .given .1))))))
 
 returns-3 : tie.Need-returns-3
 returns-3 c =
     let s = c .before .before .before .before .before .before .before .before .before in
     let l = s .args .line .now in
     let e : length l ≡ 8 = omega arith in
-    sym (bad _ (rw e (hex-broken l 0 6 2 (hex-joined l 0 2 4 (s .pre .0) (address (c .before .before .before) .hex)) (none-of _ _ _ _ (c .before .before .number-at2 .ensures) (c .enum-told2 .given .1)))))
+    sym (bad _ (rw e (hex-broken l 0 6 2 (hex-joined l 0 2 4 (s .pre .0) (address (c .before .before .before) .hex)) (none-of _ _ _ _ (c .before .before .read-number2 .ensures) (c .enum-told2 .given .1)))))
 
 returns-4 : tie.Need-returns-4
 unfolding spelled
