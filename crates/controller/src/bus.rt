@@ -86,7 +86,8 @@ impl Controller {
         if self.busy() {
             return 0;
         }
-        let at = bank_place(self.select % 16, ram.len(), 8192) + address as usize % 8192;
+        let at = bank_place(self.select % 16, ram.len(), Controller::RAM_BANK)
+            + address as usize % Controller::RAM_BANK;
         ram[at]
     }
 
@@ -98,7 +99,8 @@ impl Controller {
         if address < 0x4000 {
             return rom[address as usize];
         }
-        let at = bank_place(self.bank, rom.len(), 16384) + address as usize % 16384;
+        let at = bank_place(self.bank, rom.len(), Controller::ROM_BANK)
+            + address as usize % Controller::ROM_BANK;
         rom[at]
     }
 
@@ -252,7 +254,8 @@ impl Controller {
         if !self.enabled {
             return;
         }
-        let at = bank_place(self.select % 16, ram.len(), 8192) + address as usize % 8192;
+        let at = bank_place(self.select % 16, ram.len(), Controller::RAM_BANK)
+            + address as usize % Controller::RAM_BANK;
         ram[at] = value;
     }
 
