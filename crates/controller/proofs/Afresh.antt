@@ -10,7 +10,8 @@ use Rattle.controller.specs.declared.WriteAnswer.{WriteAnswer}
 use Rattle.controller.specs.declared.WriteDone.{WriteDone}
 use Rattle.controller.specs.State.{resetState}
 use Rattle.controller.specs.Outcome.{outcome, writeNumber}
-use Rattle.controller.specs.Picture.{pictureOf, Afresh, afresh, pictureMeans}
+use Rattle.tiles.specs.Picture.{pictureOf}
+use Rattle.controller.specs.Picture.{Afresh, afresh, pictureMeans}
 use Rattle.controller.proofs.Only.{only-write}
 
 -- a frame that is not 16,384 bytes: 4, and no byte lent changes

@@ -18,7 +18,7 @@ use Rattle.controller.specs.Capture.{Ticking, putPixel, writtenAt, moved
 use Rattle.controller.specs.Calls.{tickMeans, ticked}
 use Rattle.controller.proofs.Lent.{both-left}
 use Rattle.controller.proofs.Exists.{before-total, exists-moved, exists-ended}
-use Rattle.controller.proofs.Range.{put-length}
+use Rattle.tiles.proofs.Run.{put-length}
 use Rattle.controller.proofs.Ticks.{rest, cycle-on, cycle-last}
 use Rattle.controller.proofs.Refused.{tick-state, tick-ram, tick-store, tick-done}
 

@@ -15,8 +15,10 @@ use Rattle.controller.specs.State.{started}
 use Rattle.controller.specs.Capture.{Ticking, writtenAt, moved, ended, running, runs, cycle, ticks, from}
 use Rattle.controller.specs.Outcome.{outcome}
 use Rattle.controller.specs.Calls.{ticked}
-use Rattle.controller.specs.Bulk.{pixels, doneBy}
-use Rattle.controller.proofs.Range.{pixels-none, pixels-step, done-mono, done-all}
+use Rattle.tiles.specs.Bulk.{pixels}
+use Rattle.controller.specs.Bulk.{doneBy}
+use Rattle.tiles.proofs.Run.{pixels-none}
+use Rattle.controller.proofs.Range.{pixels-step, done-mono, done-all}
 
 -- ---- idle cycles
 

@@ -10,7 +10,7 @@ use Rattle.sensor.specs.Shade.{shadeAt}
 use Rattle.controller.specs.declared.Controller.{Controller}
 use Rattle.controller.specs.Timing.{totalOf, rowsRead, firstRow, due, candidate}
 use Rattle.controller.specs.State.{started, noRegisters}
-use Rattle.controller.specs.Tiles.{putAt}
+use Rattle.tiles.specs.Tiles.{putAt}
 
 -- the sensor row of pixel k
 abbrev pub rowOf : List ℕ → ℕ → ℕ

@@ -3,7 +3,6 @@ pub mod Lent
 pub mod Timing
 pub mod State
 pub mod Outcome
-pub mod Tiles
 pub mod Capture
 pub mod Bus
 pub mod Calls

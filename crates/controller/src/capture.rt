@@ -1,11 +1,10 @@
-// Captures: which of the picture's pixels fall into a tick, where each one stands in the RAM, and what a tick does.
+// Captures: which of the picture's pixels fall into a tick, and what a tick does.
 use super::Clocks;
 use super::Controller;
 use super::Cycles;
 use super::Refusal;
 use super::TickAnswer;
 use super::TickDone;
-use super::picture::put_row;
 use super::state::exposure;
 use super::state::ram_allowed;
 use super::state::total;
@@ -15,11 +14,9 @@ ghost use mathlib.Core.Bool.{Bool, true, false};
 ghost use mathlib.Core.List.{List};
 ghost use Prim.Native.Nat.{ℕ, _+_, _-_, _*_, _/_, _%_, _<_, _≤_, min};
 ghost use lib.ListN.{length, getD};
-ghost use Rattle.laws.specs.Bits.{putBit};
-ghost use Rattle.sensor.specs.Taken.{Asked};
 ghost use Rattle.controller.specs.Timing.{clocks, totalOf};
-ghost use Rattle.controller.specs.Tiles.{putAt};
-ghost use Rattle.controller.specs.Bulk.{putNth, pixels, pictureFrom, doneBy};
+ghost use Rattle.tiles.specs.Bulk.{pixels};
+ghost use Rattle.controller.specs.Bulk.{pictureFrom, doneBy};
 ghost use Rattle.controller.specs.Capture.{moved, ended, running, ticks, from};
 ghost use Rattle.controller.specs.Outcome.{outcome, tickOutcome};
 ghost use Rattle.controller.specs.Calls.{refusal, ticked, tickMeans};
@@ -53,79 +50,10 @@ fn done_by(first: Clocks, elapsed: Cycles) -> usize
         return 0;
     }
     let done = (now.0 - first.0) as usize;
-    if done < Controller::PIXELS {
+    if done < tiles::PIXELS {
         return done;
     }
-    Controller::PIXELS
-}
-
-// `b` with its bit `bit` set to `v`.
-fn put_bit(b: u8, bit: u8, v: u8) -> u8
-    requires { ⌜ (bit < 8) × (v < 2) ⌝ }
-    ensures { λ r. ⌜ r ≡ putBit b bit v ⌝ }
-{
-    let w = 1u8 << bit;
-    (b & !w) | (v << bit)
-}
-
-// Puts a pixel of the picture: the shade's low bit in one byte, its high bit in the next.
-fn put_pixel(ram: &mut [u8], x: usize, y: usize, shade: u8)
-    requires { ⌜ (x < 128) × (y < 112) × (shade < 4) × (8192 ≤ length (now ram)) ⌝ }
-    ensures { λ _. ⌜ now (ram .exit) ≡ putAt (now (ram .entry)) x y shade ⌝ }
-{
-    let low = Controller::PICTURE + 16 * (16 * (y / 8) + x / 8) + 2 * (y % 8);
-    let high = low + 1;
-    let bit = (7 - x % 8) as u8;
-    let a = put_bit(ram[low], bit, shade % 2);
-    let b = put_bit(ram[high], bit, shade / 2);
-    ram[low] = a;
-    ram[high] = b;
-}
-
-// Puts pixel j of the picture, row by row: picture row y is sensor row y + 8.
-fn put_nth(ram: &mut [u8], store: &[u8], set: Setting, regs: &[u8; 54], j: usize)
-    requires { ⌜ (j < 14336) × (8192 ≤ length (now ram)) × (length (now store) ≡ 16384) × (Asked set (now regs)) ⌝ }
-    ensures { λ _. ⌜ now (ram .exit) ≡ putNth (now (store .entry)) (now (regs .entry)) j (now (ram .entry)) ⌝ }
-{
-    let x = j % 128;
-    let y = j / 128;
-    let shade = sensor::shade_at(store, set, regs, x, y + 8);
-    put_pixel(ram, x, y, shade);
-}
-
-// Puts pixel j of the picture, or the eight from j on where they stand in the same two bytes and all are to be put: the next to put.
-fn put_some(
-    ram: &mut [u8],
-    store: &[u8],
-    set: Setting,
-    regs: &[u8; 54],
-    j: usize,
-    to: usize,
-) -> usize
-    requires { ⌜ (j < to) × (to ≤ 14336) × (8192 ≤ length (now ram)) × (length (now store) ≡ 16384) × (Asked set (now regs)) ⌝ }
-    ensures { λ r. ⌜ (now (ram .exit) ≡ pixels (now (store .entry)) (now (regs .entry)) j r (now (ram .entry))) × (j < r) × (r ≤ to) ⌝ }
-{
-    if j % 8 != 0 {
-        put_nth(ram, store, set, regs, j);
-        return j + 1;
-    }
-    if to < j + 8 {
-        put_nth(ram, store, set, regs, j);
-        return j + 1;
-    }
-    put_row(ram, store, set, regs, j);
-    j + 8
-}
-
-// Puts the pixels from..to of the picture, in order.
-fn put_pixels(ram: &mut [u8], store: &[u8], set: Setting, regs: &[u8; 54], from: usize, to: usize)
-    requires { ⌜ (from ≤ to) × (to ≤ 14336) × (8192 ≤ length (now ram)) × (length (now store) ≡ 16384) × (Asked set (now regs)) ⌝ }
-    ensures { λ _. ⌜ now (ram .exit) ≡ pixels (now (store .entry)) (now (regs .entry)) from to (now (ram .entry)) ⌝ }
-{
-    let mut j = from;
-    while j < to {
-        j = put_some(ram, store, set, regs, j, to);
-    }
+    tiles::PIXELS
 }
 
 // Writes what falls between two numbers of elapsed cycles of a capture.
@@ -136,7 +64,7 @@ fn write_between(ram: &mut [u8], store: &[u8], regs: &[u8; 54], elapsed: Cycles,
     let first = picture_from(regs);
     let from = done_by(first, elapsed);
     let to = done_by(first, then);
-    put_pixels(ram, store, Setting::of(regs), regs, from, to);
+    tiles::put_pixels(ram, store, Setting::of(regs), regs, from, to);
 }
 
 // A byte with its bit 0 clear.
@@ -149,8 +77,6 @@ fn even(b: u8) -> u8
 impl Controller {
     // Clocks before reading begins, at exposure 0.
     pub const READING: u32 = 92;
-    // The picture's pixels, 112 rows of 128.
-    pub const PIXELS: usize = 14336;
 
     // The state at a number of elapsed cycles.
     fn moved_to(mut self, elapsed: Cycles) -> Controller

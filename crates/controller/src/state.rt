@@ -83,9 +83,9 @@ pub(crate) fn ram_allowed(len: usize) -> bool
 
 impl Controller {
     // The picture's offset in RAM bank 0, and its bytes.
-    pub const PICTURE: usize = 0x100;
+    pub const PICTURE: usize = tiles::PICTURE;
 
-    pub const PICTURE_SIZE: usize = 3584;
+    pub const PICTURE_SIZE: usize = tiles::PICTURE_SIZE;
     // Image and frame store: 128 * 128 bytes.
     pub const FRAME: usize = 16384;
     // Banks of ROM and RAM.

@@ -20,7 +20,7 @@ use Rattle.controller.specs.declared.ReadDone.{ReadDone}
 use Rattle.controller.specs.declared.WriteDone.{WriteDone}
 use Rattle.controller.specs.declared.TickDone.{TickDone}
 use Rattle.controller.specs.State.{resetState}
-use Rattle.controller.specs.Tiles.{Bytes}
+use Rattle.tiles.specs.Tiles.{Bytes}
 use Rattle.controller.specs.Outcome.{Outcome, outcome, numberOf, readNumber, readValue, readOutcome, writeNumber, writeOutcome, tickNumber, tickValue, tickOutcome, inspection}
 use Rattle.controller.specs.Calls.{readMeans, writeMeans, tickMeans}
 use Rattle.controller.specs.Inspect.{inspectMeans}

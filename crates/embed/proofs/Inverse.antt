@@ -9,7 +9,7 @@ use lib.ListN.{length, getD, take, drop, length-append, length-drop, take-append
 use lib.Seq.{take-at, drop-at, take-all, drop-drop, drop-cons}
 use borrow.Author.Tests.{eqb-true, leb-true, eq-eqb}
 use Rattle.controller.specs.declared.Controller.{Controller}
-use Rattle.controller.specs.Tiles.{Bytes}
+use Rattle.tiles.specs.Tiles.{Bytes}
 use Rattle.controller.proofs.Lent.{both-left, both-right}
 use Rattle.embed.specs.Layout.{flag, lowFirst, encoded, isRecord, fourAt, registersAt, decoded}
 

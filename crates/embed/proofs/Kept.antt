@@ -3,7 +3,7 @@ use mathlib.Core.Path.{_≡_, refl, sym, _∙_}
 use mathlib.Core.Bool.{Bool, true}
 use mathlib.Core.List.{List}
 use Prim.Native.Nat.{ℕ, _/_, _<_}
-use Rattle.controller.specs.Tiles.{Bytes}
+use Rattle.tiles.specs.Tiles.{Bytes}
 use Rattle.controller.specs.Outcome.{Outcome}
 use Rattle.controller.proofs.Refusals.{either, Refuses, write-refuses, tick-refuses}
 use Rattle.embed.specs.Layout.{encoded, isRecord, decoded}

@@ -15,7 +15,7 @@ use Rattle.sensor.specs.Taken.{exposureOf}
 use Rattle.controller.specs.declared.Controller.{Controller}
 use Rattle.controller.specs.Timing.{nSet, totalOf}
 use Rattle.controller.specs.State.{cantExist, allZero, leftOver}
-use Rattle.controller.specs.Tiles.{Bytes}
+use Rattle.tiles.specs.Tiles.{Bytes}
 use Rattle.controller.specs.Bus.{registersOn, withEnabled, withBank, withSelect, withRegister, controlWritten, isStart, captureWritten, registerWritten, Left, byteWritten}
 use Rattle.controller.specs.Capture.{Ticking, begun, moved, ended, running, runs, cycle, ticks, from}
 use Rattle.controller.specs.Calls.{writeMeans, tickMeans}

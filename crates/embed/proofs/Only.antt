@@ -10,7 +10,7 @@ use Rattle.laws.specs.Iter.{iter}
 use Rattle.laws.proofs.Pick.{pick-ind}
 use Rattle.controller.specs.declared.Controller.{Controller}
 use Rattle.controller.specs.State.{cantExist, started}
-use Rattle.controller.specs.Tiles.{Bytes}
+use Rattle.tiles.specs.Tiles.{Bytes}
 use Rattle.controller.specs.Outcome.{Outcome, Inspection}
 use Rattle.controller.specs.Bus.{registersOn, romRead, byteRead}
 use Rattle.controller.specs.Capture.{Ticking, running, runs, cycle, ticks, from}

@@ -16,8 +16,8 @@ use Rattle.sensor.specs.Row.{passes, rowFilter, step5}
 use Rattle.sensor.specs.Shade.{valueAt, shadeOf, shadeAt}
 use Rattle.controller.specs.Timing.{nSet, totalOf, readingFrom, rowsRead, firstRow, due}
 use Rattle.controller.specs.Capture.{putPixel, writtenAt}
-use Rattle.controller.specs.Tiles.{Bytes, putAt}
-use Rattle.controller.specs.Picture.{packed}
+use Rattle.tiles.specs.Tiles.{Bytes, putAt}
+use Rattle.laws.specs.Lists.{packed}
 use Rattle.controller.specs.Bulk.{pictureFrom, doneBy}
 use Rattle.figures.specs.Figures.{Figure, Agree, table, firstCycle, shown, changed}
 

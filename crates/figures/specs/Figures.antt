@@ -13,8 +13,8 @@ use Rattle.sensor.specs.Row.{rowFilter}
 use Rattle.sensor.specs.Shade.{shadeOf}
 use Rattle.controller.specs.Timing.{totalOf}
 use Rattle.controller.specs.Capture.{writtenAt}
-use Rattle.controller.specs.Tiles.{putAt}
-use Rattle.controller.specs.Picture.{packed}
+use Rattle.tiles.specs.Tiles.{putAt}
+use Rattle.laws.specs.Lists.{packed}
 use Rattle.controller.specs.Bulk.{doneBy}
 
 -- a row: what the definitions give, and what the paper says

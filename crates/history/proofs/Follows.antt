@@ -24,9 +24,10 @@ use Rattle.controller.specs.Calls.{readMeans, writeMeans, tickMeans}
 use Rattle.controller.proofs.Lent.{frame-lent, both-left, both-right}
 use Rattle.controller.proofs.Exists.{before-total}
 use Rattle.controller.proofs.Ticks.{idle, going, over}
-use Rattle.controller.proofs.Pixels.{pixels-length}
-use Rattle.controller.proofs.Range.{pixels-none}
-use Rattle.controller.specs.Bulk.{pixels, doneBy}
+use Rattle.tiles.proofs.Pixels.{pixels-length}
+use Rattle.tiles.proofs.Run.{pixels-none}
+use Rattle.tiles.specs.Bulk.{pixels}
+use Rattle.controller.specs.Bulk.{doneBy}
 use Rattle.history.specs.History.{Call, reset, read, write, tick, inspect, World, fresh, leftBy, leaves, answers, refusalIn, countIn, after}
 use Rattle.history.specs.Track.{lands, landsAt, byteIn, Track, atReset, writeAccepted, tickAccepted, cyclesOf, runsIn, ends, enabling, selecting, storing, beginning, running, ending, controlled, registered, written, next, follow, told, seen, Told}
 use Rattle.history.proofs.Picks.{paired, by-test, not-both}

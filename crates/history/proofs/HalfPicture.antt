@@ -14,13 +14,15 @@ use Rattle.laws.specs.Bits.{isSet}
 use Rattle.laws.proofs.Order.{split}
 use Rattle.controller.specs.Lent.{ramAllowed}
 use Rattle.controller.specs.Timing.{readingFrom, firstRow}
-use Rattle.controller.specs.Tiles.{place, shadeIn}
-use Rattle.controller.specs.Picture.{pictureShade}
-use Rattle.controller.specs.Bulk.{pixels, pictureFrom, doneBy}
+use Rattle.tiles.specs.Tiles.{place, shadeIn}
+use Rattle.tiles.specs.Picture.{pictureShade}
+use Rattle.tiles.specs.Bulk.{pixels}
+use Rattle.controller.specs.Bulk.{pictureFrom, doneBy}
 use Rattle.controller.proofs.Lent.{both-left, both-right, ram-lent}
 use Rattle.controller.proofs.Exists.{neither-left, neither-right}
-use Rattle.controller.proofs.Range.{timed, pixels-none, done-mono, done-most, done-low}
-use Rattle.controller.proofs.Pixels.{pixels-passed, pixels-others}
+use Rattle.tiles.proofs.Run.{pixels-none}
+use Rattle.controller.proofs.Range.{timed, done-mono, done-most, done-low}
+use Rattle.tiles.proofs.Pixels.{pixels-passed, pixels-others}
 use Rattle.history.specs.History.{Call, reset, read, write, tick, inspect, World, fresh, leaves, after, counted}
 use Rattle.history.specs.Track.{Track, writeAccepted, runsIn, toRegisters, starts, imageIn, registersAt, lands, landsAt, byteIn, next, told}
 use Rattle.history.specs.Since.{Held, ofPixel, cycleOf, clear, goesOn}

@@ -13,7 +13,7 @@ use Rattle.laws.proofs.Pick.{pick-ind}
 use Rattle.controller.specs.Lent.{ramAllowed}
 use Rattle.controller.proofs.Lent.{both-left, ram-inside}
 use Rattle.controller.proofs.Range.{done-most}
-use Rattle.controller.proofs.Pixels.{pixels-length, pixels-outside}
+use Rattle.tiles.proofs.Pixels.{pixels-length, pixels-outside}
 use Rattle.history.specs.History.{Call, reset, read, write, tick, inspect, World, fresh, leaves, after}
 use Rattle.history.specs.Track.{Track, atReset, writeAccepted, lands, landsAt, byteIn, next}
 use Rattle.history.specs.Since.{inArea, lastIn}

@@ -11,13 +11,14 @@ use lib.Seq.{getD-set-same, getD-set-other, set-out, getD-take, getD-drop, ext-g
 use borrow.Author.Tests.{eqb-true, eqb-false, ltb-true, lt-ltb, le-leb, not-true}
 use Rattle.laws.proofs.Order.{split}
 use Rattle.controller.specs.Lent.{ramAllowed}
-use Rattle.controller.specs.Tiles.{place, shadeIn, areaOf, Bytes}
-use Rattle.controller.specs.Picture.{pictureShade, pictureOf}
+use Rattle.tiles.specs.Tiles.{place, shadeIn, areaOf, Bytes}
+use Rattle.tiles.specs.Picture.{pictureShade, pictureOf}
 use Rattle.controller.specs.Bulk.{doneBy}
 use Rattle.controller.proofs.Lent.{both-left, both-right, ram-lent}
-use Rattle.controller.proofs.Range.{pixels-none, done-all, done-most}
-use Rattle.controller.proofs.Pixels.{pixels-bytes}
-use Rattle.controller.proofs.Area.{area-whole}
+use Rattle.tiles.proofs.Run.{pixels-none}
+use Rattle.controller.proofs.Range.{done-all, done-most}
+use Rattle.tiles.proofs.Pixels.{pixels-bytes}
+use Rattle.tiles.proofs.Area.{area-whole}
 use Rattle.history.specs.History.{Call, reset, read, write, tick, inspect, World, fresh, leaves, after, counted}
 use Rattle.history.specs.Track.{Track, tickAccepted, runsIn, starts, ends, imageIn, registersAt, lands, landsAt, byteIn, next, told}
 use Rattle.history.specs.Since.{Whole, inArea, ofPixel, clear, noStart, bytesIn}

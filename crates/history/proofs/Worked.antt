@@ -11,8 +11,8 @@ use Rattle.laws.proofs.Order.{split}
 use Rattle.sensor.specs.Taken.{exposureOf}
 use Rattle.controller.specs.Lent.{banksAllowed}
 use Rattle.controller.specs.Timing.{readingFrom, firstRow}
-use Rattle.controller.specs.Tiles.{shadeIn, areaOf, Bytes}
-use Rattle.controller.specs.Picture.{pictureShade, pictureOf}
+use Rattle.tiles.specs.Tiles.{shadeIn, areaOf, Bytes}
+use Rattle.tiles.specs.Picture.{pictureShade, pictureOf}
 use Rattle.controller.specs.Bus.{onCartridge}
 use Rattle.history.specs.History.{Call, read, write, tick, inspect, fresh, after, counted}
 use Rattle.history.specs.Track.{atReset, writeAccepted, tickAccepted, cyclesOf, runsIn, ends, toRegisters, starts, imageIn, registersAt, lands, landsAt, byteIn, enabling, selecting, storing, beginning, running, ending, controlled, registered, written, next, follow, told}

@@ -6,7 +6,7 @@ use Prim.Native.Nat.{ℕ, _+_, _-_, _*_, _/_, _%_}
 use lib.Dec.{eqb, leb, ltb}
 use Rattle.laws.specs.Pick.{pick}
 use Rattle.controller.specs.Timing.{readingFrom, firstRow}
-use Rattle.controller.specs.Tiles.{place}
+use Rattle.tiles.specs.Tiles.{place}
 use Rattle.history.specs.History.{Call, reset, read, write, tick, inspect, World}
 use Rattle.history.specs.Track.{Track, next, follow, told, starts, ends, lands, landsAt, byteIn}
 

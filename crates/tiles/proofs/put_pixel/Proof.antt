@@ -1,10 +1,10 @@
--- `controller::capture::put_pixel` meets its contract: two bytes are read, and then two are stored. Assumes nothing.
+-- `tiles::put_pixel` meets its contract: two bytes are read, and then two are stored. Assumes nothing.
 use native.Mathlib.Omega.{arith}
 use lib.ListN.{length-set}
 use borrow.Author.Needs.{needs}
-use Rattle.controller.specs.Tiles.{putAt}
-use Rattle.controller.proofs.capture.put_pixel.Statement.{statement}
-use Rattle.controller.proofs.capture.put_pixel.Tie as tie
+use Rattle.tiles.specs.Tiles.{putAt}
+use Rattle.tiles.proofs.put_pixel.Statement.{statement}
+use Rattle.tiles.proofs.put_pixel.Tie as tie
 
 returns : tie.Need-returns
 unfolding putAt

@@ -1,10 +1,10 @@
--- `controller::capture::put_some` meets its contract: one pixel, or the eight of two bytes. Assumes nothing.
-use Rattle.controller.proofs.Range.{pixels-one}
+-- `tiles::put_some` meets its contract: one pixel, or the eight of two bytes. Assumes nothing.
+use Rattle.tiles.proofs.Run.{pixels-one}
 use native.Mathlib.Omega.{arith}
 use mathlib.Core.Path.{sym, _∙_}
 use borrow.Author.Needs.{needs}
-use Rattle.controller.proofs.capture.put_some.Statement.{statement}
-use Rattle.controller.proofs.capture.put_some.Tie as tie
+use Rattle.tiles.proofs.put_some.Statement.{statement}
+use Rattle.tiles.proofs.put_some.Tie as tie
 
 put-nth-requires : tie.Need-put-nth-requires
 put-nth-requires c κs = search needs

@@ -1,13 +1,13 @@
--- `controller::picture::fill` meets its contract. The invariant: the bytes below i, which is even, are the picture's. Assumes nothing.
+-- `tiles::fill` meets its contract. The invariant: the bytes below i, which is even, are the picture's. Assumes nothing.
 use mathlib.Core.Path.{_≡_}
 use Prim.Native.Nat.{ℕ, _-_, _%_, _<_, _≤_}
 use native.Mathlib.Omega.{arith}
 use lib.ListN.{length, getD, length-set}
 use borrow.Author.Needs.{needs}
-use Rattle.controller.specs.Picture.{pictureByte}
-use Rattle.controller.proofs.Area.{picture-more, picture-made}
-use Rattle.controller.proofs.picture.fill.Statement.{statement}
-use Rattle.controller.proofs.picture.fill.Tie as tie
+use Rattle.tiles.specs.Picture.{pictureByte}
+use Rattle.tiles.proofs.Area.{picture-more, picture-made}
+use Rattle.tiles.proofs.fill.Statement.{statement}
+use Rattle.tiles.proofs.fill.Tie as tie
 
 abbrev Inv-loop : tie.InvT-loop
 Inv-loop frame set regs out₀ i₀ out i =

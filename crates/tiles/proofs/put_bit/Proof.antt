@@ -1,10 +1,10 @@
--- `controller::capture::put_bit` meets its contract: the masks, by the law on them. Assumes nothing.
+-- `tiles::put_bit` meets its contract: the masks, by the law on them. Assumes nothing.
 use native.Mathlib.Omega.{arith}
 use borrow.Author.Needs.{needs}
 use Rattle.laws.specs.Bits.{putBit}
 use Rattle.laws.proofs.Masks.{by-masks}
-use Rattle.controller.proofs.capture.put_bit.Statement.{statement}
-use Rattle.controller.proofs.capture.put_bit.Tie as tie
+use Rattle.tiles.proofs.put_bit.Statement.{statement}
+use Rattle.tiles.proofs.put_bit.Tie as tie
 
 returns : tie.Need-returns
 unfolding putBit

@@ -11,10 +11,10 @@ use Rattle.laws.proofs.Order.{split}
 use Rattle.laws.proofs.BitLaws.{put-bit-same, put-bit-other, put-byte}
 use Rattle.sensor.specs.Shade.{shadeAt}
 use Rattle.sensor.proofs.Facts.{shade-small}
-use Rattle.controller.specs.Tiles.{place, putAt, shadeIn, Bytes}
-use Rattle.controller.specs.Picture.{pictureShade}
-use Rattle.controller.specs.Bulk.{putNth, pixels}
-use Rattle.controller.proofs.Range.{put-length, pixels-suc}
+use Rattle.tiles.specs.Tiles.{place, putAt, shadeIn, Bytes}
+use Rattle.tiles.specs.Picture.{pictureShade}
+use Rattle.tiles.specs.Bulk.{putNth, pixels}
+use Rattle.tiles.proofs.Run.{put-length, pixels-suc}
 
 -- ---- shades
 

@@ -14,11 +14,12 @@ use Rattle.laws.specs.Bits.{bitOf}
 use Rattle.laws.proofs.Order.{split}
 use Rattle.sensor.specs.Light.{byteAt}
 use Rattle.sensor.proofs.Rows.{rows}
-use Rattle.controller.specs.Tiles.{place, shadeIn, areaOf, Bytes}
-use Rattle.controller.specs.Picture.{listed, packed, pictureShade, lowByte, highByte, pictureByte, pictureOf}
-use Rattle.controller.specs.Bulk.{pixels}
-use Rattle.controller.proofs.Packed.{packed-ext, packed-of, listed-length, listed-at, listed-ext, listed-of}
-use Rattle.controller.proofs.Pixels.{by-place, stored, stored-first, stored-second, stored-other, pixels-length, pixels-bytes, pixels-passed}
+use Rattle.tiles.specs.Tiles.{place, shadeIn, areaOf, Bytes}
+use Rattle.laws.specs.Lists.{listed, packed}
+use Rattle.tiles.specs.Picture.{pictureShade, lowByte, highByte, pictureByte, pictureOf}
+use Rattle.tiles.specs.Bulk.{pixels}
+use Rattle.laws.proofs.Packed.{packed-ext, packed-of, listed-length, listed-at, listed-ext, listed-of}
+use Rattle.tiles.proofs.Pixels.{by-place, stored, stored-first, stored-second, stored-other, pixels-length, pixels-bytes, pixels-passed}
 
 -- the tile column and the row of the picture that byte i of the area is of
 abbrev pub columnOf : ℕ → ℕ

@@ -1,10 +1,10 @@
--- `controller::picture::put_row` meets its contract: the eight pixels are two bytes. Assumes nothing.
-use Rattle.controller.proofs.Eight.{eight-by}
+-- `tiles::put_row` meets its contract: the eight pixels are two bytes. Assumes nothing.
+use Rattle.tiles.proofs.Eight.{eight-by}
 use native.Mathlib.Omega.{arith}
 use lib.ListN.{length-set}
 use borrow.Author.Needs.{needs}
-use Rattle.controller.proofs.picture.put_row.Statement.{statement}
-use Rattle.controller.proofs.picture.put_row.Tie as tie
+use Rattle.tiles.proofs.put_row.Statement.{statement}
+use Rattle.tiles.proofs.put_row.Tie as tie
 
 returns : tie.Need-returns
 returns c =

@@ -1,11 +1,11 @@
--- `controller::capture::put_nth` meets its contract: the shade of the pixel is put. Assumes nothing.
+-- `tiles::put_nth` meets its contract: the shade of the pixel is put. Assumes nothing.
 use Prim.Native.Nat.{_+_, _/_, _%_}
 use native.Mathlib.Omega.{arith}
 use borrow.Author.Needs.{needs}
 use Rattle.sensor.proofs.Facts.{shade-small}
-use Rattle.controller.specs.Bulk.{putNth}
-use Rattle.controller.proofs.capture.put_nth.Statement.{statement}
-use Rattle.controller.proofs.capture.put_nth.Tie as tie
+use Rattle.tiles.specs.Bulk.{putNth}
+use Rattle.tiles.proofs.put_nth.Statement.{statement}
+use Rattle.tiles.proofs.put_nth.Tie as tie
 
 put-pixel-requires : tie.Need-put-pixel-requires
 put-pixel-requires c κs =

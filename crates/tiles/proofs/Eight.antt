@@ -5,12 +5,12 @@ use Prim.Native.Nat.{ℕ, zero, suc, _+_, _-_, _*_, _/_, _%_, _<_, _≤_}
 use native.Mathlib.Omega.{arith}
 use lib.ListN.{length, getD, set}
 use lib.Seq.{ext-getD}
-use Rattle.controller.specs.Tiles.{place, shadeIn, Bytes}
-use Rattle.controller.specs.Picture.{pictureShade, lowByte, highByte}
-use Rattle.controller.specs.Bulk.{putNth, pixels}
-use Rattle.controller.proofs.Pixels.{by-place, stored, stored-length, stored-first, stored-second, stored-other, put-elsewhere, pixels-keep, pixels-length, pixels-bytes, pixels-passed}
-use Rattle.controller.proofs.Area.{columnOf, rowOf, byteOf, byteOf-low, byteOf-high, Stands, stands, area-byte}
-use Rattle.controller.proofs.Packed.{packed-ext}
+use Rattle.tiles.specs.Tiles.{place, shadeIn, Bytes}
+use Rattle.tiles.specs.Picture.{pictureShade, lowByte, highByte}
+use Rattle.tiles.specs.Bulk.{putNth, pixels}
+use Rattle.tiles.proofs.Pixels.{by-place, stored, stored-length, stored-first, stored-second, stored-other, put-elsewhere, pixels-keep, pixels-length, pixels-bytes, pixels-passed}
+use Rattle.tiles.proofs.Area.{columnOf, rowOf, byteOf, byteOf-low, byteOf-high, Stands, stands, area-byte}
+use Rattle.laws.proofs.Packed.{packed-ext}
 
 module _ (frame regs : List ℕ) (j : ℕ) (ram : List ℕ) (aligned : j % 8 ≡ 0) (most : j + 8 ≤ 14336) (long : 8192 ≤ length ram) (bytes : Bytes ram) where
   -- the first of the two bytes

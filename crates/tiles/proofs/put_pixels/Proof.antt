@@ -1,12 +1,12 @@
--- `controller::capture::put_pixels` meets its contract. The invariant: the RAM is the pixels from `from` to j put into what it was. Assumes nothing.
-use Rattle.controller.proofs.Range.{pixels-none, pixels-join}
-use Rattle.controller.specs.Bulk.{pixels}
+-- `tiles::put_pixels` meets its contract. The invariant: the RAM is the pixels from `from` to j put into what it was. Assumes nothing.
+use Rattle.tiles.proofs.Run.{pixels-none, pixels-join}
+use Rattle.tiles.specs.Bulk.{pixels}
 use lib.ListN.{length}
 use native.Mathlib.Omega.{arith}
 use Prim.Native.Nat.{_≤_, _-_}
 use mathlib.Core.Path.{_≡_, refl, sym, ap, _∙_}
-use Rattle.controller.proofs.capture.put_pixels.Statement.{statement}
-use Rattle.controller.proofs.capture.put_pixels.Tie as tie
+use Rattle.tiles.proofs.put_pixels.Statement.{statement}
+use Rattle.tiles.proofs.put_pixels.Tie as tie
 
 abbrev Inv-loop : tie.InvT-loop
 Inv-loop ram₀ store set regs from to j₀ ram j = (from ≤ j) × (j ≤ to) × (length ram ≡ length ram₀) × (ram ≡ pixels store regs from j ram₀)

@@ -8,10 +8,10 @@ use native.Mathlib.Omega.{arith}
 use lib.ListN.{length, getD, length-append, List·getD-append}
 use lib.Seq.{getD-at, ext-getD}
 use lib.Pow.{pow-mono, shr-shr}
 use Rattle.laws.specs.Bits.{bitOf}
 use Rattle.laws.proofs.Order.{split}
 use Rattle.laws.proofs.BitLaws.{bits-same}
-use Rattle.controller.specs.Picture.{listed, packed}
+use Rattle.laws.specs.Lists.{listed, packed}
 
 -- packing one bit more
 pub packed-none : (f : ℕ → ℕ) → packed f 0 ≡ 0

@@ -1,15 +1,16 @@
--- `controller::picture::tile_row` meets its contract. The invariant: the bits of the first b pixels, packed. Assumes nothing.
+-- `tiles::tile_row` meets its contract. The invariant: the bits of the first b pixels, packed. Assumes nothing.
 use mathlib.Core.Path.{_≡_, sym, ap}
 use Prim.Native.Nat.{ℕ, _+_, _-_, _*_, _/_, _%_, _<_, _≤_}
 use native.Mathlib.Omega.{arith}
 use mathlib.Core.List.{List}
 use borrow.Author.Needs.{needs}
-use Rattle.controller.specs.Picture.{packed, pictureShade, lowByte, highByte}
-use Rattle.controller.proofs.Packed.{packed-none, packed-next, packed-room}
+use Rattle.laws.specs.Lists.{packed}
+use Rattle.tiles.specs.Picture.{pictureShade, lowByte, highByte}
+use Rattle.laws.proofs.Packed.{packed-none, packed-next, packed-room}
 use Rattle.sensor.proofs.Facts.{shade-small}
-use Rattle.controller.proofs.Pixels.{shade-bound}
-use Rattle.controller.proofs.picture.tile_row.Statement.{statement}
-use Rattle.controller.proofs.picture.tile_row.Tie as tie
+use Rattle.tiles.proofs.Pixels.{shade-bound}
+use Rattle.tiles.proofs.tile_row.Statement.{statement}
+use Rattle.tiles.proofs.tile_row.Tie as tie
 
 -- the low bits and the high bits of the row
 abbrev lows : List ℕ → List ℕ → ℕ → ℕ → ℕ → ℕ

@@ -1,0 +1,5 @@
+-- Laws of the tiles.
+pub mod Run
+pub mod Pixels
+pub mod Area
+pub mod Eight

@@ -1,0 +1,139 @@
+// Step 7 of light to shade: where a shade stands in the RAM, a range of the picture's pixels put there, and the picture afresh.
+// It knows frames, registers and RAM bytes, but neither the bus nor time.
+use sensor::Setting;
+ghost use mathlib.Core.Path.{_≡_};
+ghost use Prim.Native.Nat.{ℕ, _+_, _*_, _/_, _%_, _<_, _≤_};
+ghost use lib.ListN.{length};
+ghost use Rattle.laws.specs.Bits.{putBit};
+ghost use Rattle.sensor.specs.Taken.{Asked};
+ghost use Rattle.tiles.specs.Tiles.{putAt};
+ghost use Rattle.tiles.specs.Picture.{lowByte, highByte, pictureOf};
+ghost use Rattle.tiles.specs.Bulk.{putNth, pixels};
+
+// The picture's offset in RAM bank 0, its bytes, and its pixels: 112 rows of 128.
+pub const PICTURE: usize = 0x100;
+pub const PICTURE_SIZE: usize = 3584;
+pub const PIXELS: usize = 14336;
+
+// `b` with its bit `bit` set to `v`.
+fn put_bit(b: u8, bit: u8, v: u8) -> u8
+    requires { ⌜ (bit < 8) × (v < 2) ⌝ }
+    ensures { λ r. ⌜ r ≡ putBit b bit v ⌝ }
+{
+    let w = 1u8 << bit;
+    (b & !w) | (v << bit)
+}
+
+// Puts a pixel of the picture: the shade's low bit in one byte, its high bit in the next.
+fn put_pixel(ram: &mut [u8], x: usize, y: usize, shade: u8)
+    requires { ⌜ (x < 128) × (y < 112) × (shade < 4) × (8192 ≤ length (now ram)) ⌝ }
+    ensures { λ _. ⌜ now (ram .exit) ≡ putAt (now (ram .entry)) x y shade ⌝ }
+{
+    let low = PICTURE + 16 * (16 * (y / 8) + x / 8) + 2 * (y % 8);
+    let high = low + 1;
+    let bit = (7 - x % 8) as u8;
+    let a = put_bit(ram[low], bit, shade % 2);
+    let b = put_bit(ram[high], bit, shade / 2);
+    ram[low] = a;
+    ram[high] = b;
+}
+
+// Puts pixel j of the picture, row by row: picture row y is sensor row y + 8.
+fn put_nth(ram: &mut [u8], store: &[u8], set: Setting, regs: &[u8; 54], j: usize)
+    requires { ⌜ (j < 14336) × (8192 ≤ length (now ram)) × (length (now store) ≡ 16384) × (Asked set (now regs)) ⌝ }
+    ensures { λ _. ⌜ now (ram .exit) ≡ putNth (now (store .entry)) (now (regs .entry)) j (now (ram .entry)) ⌝ }
+{
+    let x = j % 128;
+    let y = j / 128;
+    let shade = sensor::shade_at(store, set, regs, x, y + 8);
+    put_pixel(ram, x, y, shade);
+}
+
+// Puts pixel j of the picture, or the eight from j on where they stand in the same two bytes and all are to be put: the next to put.
+fn put_some(
+    ram: &mut [u8],
+    store: &[u8],
+    set: Setting,
+    regs: &[u8; 54],
+    j: usize,
+    to: usize,
+) -> usize
+    requires { ⌜ (j < to) × (to ≤ 14336) × (8192 ≤ length (now ram)) × (length (now store) ≡ 16384) × (Asked set (now regs)) ⌝ }
+    ensures { λ r. ⌜ (now (ram .exit) ≡ pixels (now (store .entry)) (now (regs .entry)) j r (now (ram .entry))) × (j < r) × (r ≤ to) ⌝ }
+{
+    if j % 8 != 0 {
+        put_nth(ram, store, set, regs, j);
+        return j + 1;
+    }
+    if to < j + 8 {
+        put_nth(ram, store, set, regs, j);
+        return j + 1;
+    }
+    put_row(ram, store, set, regs, j);
+    j + 8
+}
+
+// Puts the pixels from..to of the picture, in order.
+pub fn put_pixels(ram: &mut [u8], store: &[u8], set: Setting, regs: &[u8; 54], from: usize, to: usize)
+    requires { ⌜ (from ≤ to) × (to ≤ 14336) × (8192 ≤ length (now ram)) × (length (now store) ≡ 16384) × (Asked set (now regs)) ⌝ }
+    ensures { λ _. ⌜ now (ram .exit) ≡ pixels (now (store .entry)) (now (regs .entry)) from to (now (ram .entry)) ⌝ }
+{
+    let mut j = from;
+    while j < to {
+        j = put_some(ram, store, set, regs, j, to);
+    }
+}
+
+// Eight pixels of a row: their low bits, and their high bits, the first pixel's the highest.
+pub struct TileRow {
+    pub low: u8,
+    pub high: u8,
+}
+
+// The eight pixels of picture row y from column 8 * t on. `set` is what `regs` ask.
+fn tile_row(frame: &[u8], set: Setting, regs: &[u8; 54], t: usize, y: usize) -> TileRow
+    requires { ⌜ (length (now frame) ≡ 16384) × (t < 16) × (y < 112) ⌝ }
+    requires { ⌜ Asked set (now regs) ⌝ }
+    ensures { λ r. ⌜ (r .low ≡ lowByte (now (frame .entry)) (now (regs .entry)) t y) × (r .high ≡ highByte (now (frame .entry)) (now (regs .entry)) t y) ⌝ }
+{
+    let mut low: u8 = 0;
+    let mut high: u8 = 0;
+    for b in 0..8 {
+        let s = sensor::shade_at(frame, set, regs, 8 * t + b, y + 8);
+        low = low * 2 + s % 2;
+        high = high * 2 + s / 2;
+    }
+    TileRow { low, high }
+}
+
+// The picture afresh: its bytes in order, two a turn.
+pub fn fill(frame: &[u8], set: Setting, regs: &[u8; 54], out: &mut [u8])
+    requires { ⌜ (length (now frame) ≡ 16384) × (length (now out) ≡ 3584) ⌝ }
+    requires { ⌜ Asked set (now regs) ⌝ }
+    ensures { λ _. ⌜ now (out .exit) ≡ pictureOf (now (frame .entry)) (now (regs .entry)) ⌝ }
+{
+    let mut i = 0;
+    while i < PICTURE_SIZE {
+        let row = tile_row(frame, set, regs, i / 16 % 16, 8 * (i / 256) + i / 2 % 8);
+        let next = i + 1;
+        out[i] = row.low;
+        out[next] = row.high;
+        i += 2;
+    }
+}
+
+// Pixels j to j + 7 of the picture, which stand in the same two bytes.
+fn put_row(ram: &mut [u8], store: &[u8], set: Setting, regs: &[u8; 54], j: usize)
+    requires { ⌜ (8192 ≤ length (now ram)) × (length (now store) ≡ 16384) × (j % 8 ≡ 0) × (j + 8 ≤ 14336) ⌝ }
+    requires { ⌜ Asked set (now regs) ⌝ }
+    ensures { λ _. ⌜ now (ram .exit) ≡ pixels (now (store .entry)) (now (regs .entry)) j (j + 8) (now (ram .entry)) ⌝ }
+{
+    let t = j % 128 / 8;
+    let y = j / 128;
+    let row = tile_row(store, set, regs, t, y);
+    let o = PICTURE + 16 * (16 * (y / 8) + t) + 2 * (y % 8);
+    let p = o + 1;
+    ram[o] = row.low;
+    ram[p] = row.high;
+}
+
