@@ -7,11 +7,7 @@ use native.Mathlib.Numerals.{add-one}
 use native.Mathlib.Omega.{arith}
 use lib.Dec.{ltb}
 use lib.ListN.{getD}
-use Rattle.controller.specs.declared.Controller.{Controller}
-use Rattle.controller.specs.declared.Refusal.the-variants.{State}
-use Rattle.controller.specs.State.{cantExist}
-use Rattle.controller.specs.Outcome.{numberOf}
-use Rattle.controller.specs.Inspect.{reversed, firstIn, inspectMeans}
+use Rattle.controller.specs.Inspect.{reversed, firstIn, named}
 
 -- L > M, or else M > H
 module _ (regs : List ℕ) (row column : ℕ) where
@@ -23,19 +19,13 @@ module _ (regs : List ℕ) (row column : ℕ) where
   unfolding reversed
   reversed-right h = simp h
 
--- the three answers
-pub inspect-state : (c : Controller) → cantExist c ≡ true → inspectMeans c ≡ record { number = numberOf State; found = false; row = 0; column = 0 }
-unfolding inspectMeans
-inspect-state c h = simp h
+-- no element, or one
+module _ (regs : List ℕ) (k : ℕ) (first : k ≡ firstIn regs 0 16) where
+  pub named-level : ltb k 16 ≡ false → record { number = 0; found = false; row = 0; column = 0 } ≡ named (firstIn regs 0 16)
+  named-level h = simp (sym first, h)
 
-module _ (c : Controller) (k : ℕ) (first : k ≡ firstIn (c .registers) 0 16) (can : cantExist c ≡ false) where
-  pub inspect-level : ltb k 16 ≡ false → inspectMeans c ≡ record { number = 0; found = false; row = 0; column = 0 }
-  unfolding inspectMeans
-  inspect-level h = simp (can, sym first, h)
-
-  pub inspect-at : ltb k 16 ≡ true → inspectMeans c ≡ record { number = 0; found = true; row = k / 4; column = k % 4 }
-  unfolding inspectMeans
-  inspect-at h = simp (can, sym first, h)
+  pub named-at : ltb k 16 ≡ true → record { number = 0; found = true; row = k / 4; column = k % 4 } ≡ named (firstIn regs 0 16)
+  named-at h = simp (sym first, h)
 
 module _ (regs : List ℕ) (row column : ℕ) (r : row < 4) (k : column < 4) where
   -- the element of a row and column, by its number

@@ -7,16 +7,8 @@ use native.Mathlib.Omega.{arith}
 use lib.Dec.{eqb, leb}
 use lib.Count.{ones, onesIn}
 use borrow.Author.Tests.{eqb-true, leb-true}
+use Rattle.laws.proofs.Bools.{both-left, both-right}
 use Rattle.controller.specs.Lent.{banksAllowed, romAllowed, ramAllowed, frameAllowed}
-
--- each of two tests that both hold
-pub both-left : (a b : Bool) → (a && b) ≡ true → a ≡ true
-both-left true b h = refl
-both-left false b h = h
-
-pub both-right : (a b : Bool) → (a && b) ≡ true → b ≡ true
-both-right true b h = h
-both-right false b h = let z : _≡_ {A = ℕ} 0 1 = cc in absurd (omega arith)
 
 -- a number with a bit set is not 0
 some-bit : (n : ℕ) → ones n ≡ 1 → 0 < n

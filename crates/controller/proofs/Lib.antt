@@ -1,13 +1,12 @@
 -- Laws of the controller's definitions.
-pub mod Judge
+pub mod Records
 pub mod Lent
-pub mod Refused
 pub mod Exists
 pub mod Range
 pub mod Ticks
-pub mod TickSum
 pub mod Written
 pub mod First
-pub mod Refusals
 pub mod Only
+pub mod Refusals
+pub mod TickSum
 pub mod Afresh

@@ -14,7 +14,7 @@ use Rattle.controller.specs.Capture.{rowOf, putPixel, writtenAt}
 use Rattle.tiles.specs.Bulk.{putNth, pixels}
 use Rattle.tiles.proofs.Run.{pixels-suc}
 use Rattle.controller.specs.Bulk.{pictureFrom, doneBy}
-use Rattle.controller.proofs.Lent.{both-left}
+use Rattle.laws.proofs.Bools.{both-left}
 
 -- ---- how many are done
 

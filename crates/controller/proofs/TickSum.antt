@@ -15,12 +15,13 @@ use Rattle.controller.specs.State.{cantExist, started}
 use Rattle.controller.specs.Lent.{ramAllowed, frameAllowed}
 use Rattle.controller.specs.Outcome.{Outcome, outcome}
 use Rattle.controller.specs.Capture.{Ticking, putPixel, writtenAt, moved, ended, running, runs, cycle, ticks, from}
-use Rattle.controller.specs.Calls.{tickMeans, ticked}
-use Rattle.controller.proofs.Lent.{both-left}
+use Rattle.controller.specs.Calls.{tickRows, tickMeans, ticked}
+use Rattle.laws.proofs.Bools.{both-left}
 use Rattle.controller.proofs.Exists.{before-total, exists-moved, exists-ended}
 use Rattle.tiles.proofs.Run.{put-length}
 use Rattle.controller.proofs.Ticks.{rest, cycle-on, cycle-last}
-use Rattle.controller.proofs.Refused.{tick-state, tick-ram, tick-store, tick-done}
+use Rattle.controller.proofs.Refusals.{tick-refuses, tick-fits, tick-none}
+use Rattle.controller.specs.Table.{lowest}
 
 -- a function of a pick is a pick of its values
 pub ap-pick : {X Y : Type 0} (f : X → Y) (b : Bool) (x y : X) → f (pick b x y) ≡ pick b (f x) (f y)
@@ -94,17 +95,15 @@ abbrev pub again : Outcome → ℕ → Outcome
 again p b = tickMeans (p .state) (p .ram) (p .store) b
 
 pub tick-sum : (c : Controller) (ram store : List ℕ) (a b : ℕ) → tickMeans c ram store (a + b) ≡ after (tickMeans c ram store a) (again (tickMeans c ram store a) b)
-tick-sum c ram store a b =
-    either (cantExist c)
-    (λ h. rw (tick-state c ram store (a + b) h, tick-state c ram store a h, tick-state c ram store b h))
-    (λ e.
-    either (ramAllowed (length ram))
-    (λ r.
-    either (frameAllowed (length store))
-    (λ f.
-    let w = ticks store a (from c ram) in
-    let k : Kept (length ram) w = ticks-keep store (length ram) a (from c ram) (record { exists = e; long = refl }) in
-    rw (tick-done c ram store (a + b) e r f, tick-done c ram store a e r f, tick-done (w .state) (w .ram) store b (k .exists) (rw (k .long) r) f)
-    (ap (ticked store) (ticks-sum store a b c ram)))
-    (λ h. rw (tick-store c ram store (a + b) e r h, tick-store c ram store a e r h, tick-store c ram store b e r h)))
-    (λ h. rw (tick-ram c ram store (a + b) e h, tick-ram c ram store a e h, tick-ram c ram store b e h)))
+tick-sum c ram store a b = by-number (lowest (tickRows c ram store)) refl
+  where
+    by-number : (n : ℕ) → lowest (tickRows c ram store) ≡ n → tickMeans c ram store (a + b) ≡ after (tickMeans c ram store a) (again (tickMeans c ram store a) b)
+    by-number (suc n) h =
+        rw (tick-refuses c ram store (a + b) .kept n h, tick-refuses c ram store a .kept n h, tick-refuses c ram store b .kept n h)
+    by-number zero h =
+        let f = tick-fits c ram store h in
+        let w = ticks store a (from c ram) in
+        let k : Kept (length ram) w = ticks-keep store (length ram) a (from c ram) (record { exists = f .exists; long = refl }) in
+        let again = tick-none (w .state) (w .ram) store (record { exists = k .exists; ram-fits = rw (k .long) (f .ram-fits); store-fits = f .store-fits }) in
+        rw (tick-refuses c ram store (a + b) .does h, tick-refuses c ram store a .does h, tick-refuses (w .state) (w .ram) store b .does again)
+        (ap (ticked store) (ticks-sum store a b c ram))

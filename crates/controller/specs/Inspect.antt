@@ -1,14 +1,13 @@
 -- Matrix inspection. Assumes nothing.
 use mathlib.Core.Bool.{Bool, true, false, _||_}
-use mathlib.Core.List.{List}
+use mathlib.Core.List.{List, [], _∷_}
 use Prim.Native.Nat.{ℕ, zero, suc, _+_, _-_, _*_, _/_, _%_}
 use lib.Dec.{ltb}
 use lib.ListN.{getD}
 use Rattle.laws.specs.Pick.{pick}
 use Rattle.controller.specs.declared.Controller.{Controller}
-use Rattle.controller.specs.declared.Refusal.the-variants.{State}
-use Rattle.controller.specs.State.{cantExist}
-use Rattle.controller.specs.Outcome.{Inspection, numberOf}
+use Rattle.controller.specs.Outcome.{Inspection}
+use Rattle.controller.specs.Table.{Row, noState, lowest, judged}
 
 -- the values L, M, H of the element in a row and column begin at register 6 + 3 × (4 × row + column); they don't rise or stay level: L > M or M > H
 unfoldable pub reversed : List ℕ → ℕ → ℕ → Bool
@@ -28,8 +27,13 @@ named k =
     pick (ltb k 16) (record { number = 0; found = true; row = k / 4; column = k % 4 })
     (record { number = 0; found = false; row = 0; column = 0 })
 
--- given a state, it answers from its current registers (not the taken ones). It refuses 1, with no element
+-- It refuses 1, with no element
+abbrev pub noElement : ℕ → Inspection
+noElement n = record { number = n; found = false; row = 0; column = 0 }
+
+unfoldable pub inspectRows : Controller → List Row
+inspectRows c = noState c ∷ []
+
+-- given a state, it answers from its current registers (not the taken ones)
 unfoldable pub inspectMeans : Controller → Inspection
-inspectMeans c =
-    pick (cantExist c) (record { number = numberOf State; found = false; row = 0; column = 0 })
-    (named (firstIn (c .registers) 0 16))
+inspectMeans c = judged (lowest (inspectRows c)) noElement (named (firstIn (c .registers) 0 16))

@@ -5,8 +5,8 @@ pub mod State
 pub mod Outcome
 pub mod Capture
 pub mod Bus
-pub mod Calls
 pub mod Table
+pub mod Calls
 pub mod Picture
 pub mod Bulk
 pub mod Inspect

@@ -5,6 +5,8 @@ use Prim.Native.Nat.{ℕ}
 use Rattle.controller.specs.declared.Controller.{Controller}
 use Rattle.controller.specs.declared.Refusal.{Refusal}
 use Rattle.controller.specs.declared.Refusal.the-variants.{State, Rom, Ram, Frame, Address, Line}
+use Rattle.controller.specs.declared.Verdict.{Verdict}
+use Rattle.controller.specs.declared.Verdict.the-variants as verdicts
 use Rattle.controller.specs.declared.ReadAnswer.{ReadAnswer}
 use Rattle.controller.specs.declared.ReadAnswer.the-variants as reads
 use Rattle.controller.specs.declared.WriteAnswer.{WriteAnswer}
@@ -25,6 +27,11 @@ numberOf Ram = 3
 numberOf Frame = 4
 numberOf Address = 5
 numberOf Line = 6
+
+-- what judging a call comes to, as a number: 0 where it fits
+abbrev pub verdictNumber : Verdict → ℕ
+verdictNumber verdicts.Fits = 0
+verdictNumber (verdicts.Refused n) = numberOf n
 
 -- refusal number (0: none), value (byte or count), state, RAM, frame store; what a call is not lent is the empty list
 pub record Outcome : Type 0 where

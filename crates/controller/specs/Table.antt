@@ -1,38 +1,54 @@
--- The table of refusal numbers, row by row. Assumes nothing.
-use mathlib.Core.Bool.{Bool, true, false, not, _&&_}
+-- Refusal numbers: the table, row by row, and which rows each call has. Assumes nothing.
+use mathlib.Core.Bool.{Bool, true, not}
 use mathlib.Core.List.{List, [], _∷_}
 use Prim.Native.Nat.{ℕ, zero, suc}
-use lib.ListN.{length}
+use Rattle.laws.specs.Pick.{pick}
 use Rattle.controller.specs.declared.Controller.{Controller}
+use Rattle.controller.specs.declared.Refusal.{Refusal}
+use Rattle.controller.specs.declared.Refusal.the-variants.{State, Rom, Ram, Frame, Address}
 use Rattle.controller.specs.Lent.{romAllowed, ramAllowed, frameAllowed}
 use Rattle.controller.specs.State.{cantExist}
+use Rattle.controller.specs.Outcome.{numberOf}
 use Rattle.controller.specs.Bus.{onCartridge}
 
--- the lowest number whose row holds, of rows that are numbered from 1; 0 where none does
-abbrev pub below : ℕ → ℕ
-below zero = zero
-below (suc n) = suc (suc n)
+-- a row of the table: a refusal, and whether what it is given for holds
+pub record Row : Type 0 where
+  pub why : Refusal
+  pub holds : Bool
 
-unfoldable pub lowest : List Bool → ℕ
+abbrev pub row : Refusal → Bool → Row
+row why holds = record { why = why; holds = holds }
+
+-- 1: the state record can't exist
+abbrev pub noState : Controller → Row
+noState c = row State (cantExist c)
+
+-- 2: ROM length is not allowed
+abbrev pub noRom : ℕ → Row
+noRom length = row Rom (not (romAllowed length))
+
+-- 3: RAM length is not allowed
+abbrev pub noRam : ℕ → Row
+noRam length = row Ram (not (ramAllowed length))
+
+-- 4: image or frame store is not 16,384 bytes
+abbrev pub noFrame : ℕ → Row
+noFrame length = row Frame (not (frameAllowed length))
+
+-- 5: address is outside 0000-7FFF and A000-BFFF
+abbrev pub noPlace : ℕ → Row
+noPlace address = row Address (not (onCartridge address))
+
+-- a row's number where it holds, and else the number that the rows after it give
+abbrev pub before : Row → ℕ → ℕ
+before r n = pick (r .holds) (numberOf (r .why)) n
+
+-- lowest number first: the number of the first row that holds; 0 where none does
+unfoldable pub lowest : List Row → ℕ
 lowest [] = 0
-lowest (true ∷ rows) = 1
-lowest (false ∷ rows) = below (lowest rows)
+lowest (r ∷ rows) = before r (lowest rows)
 
--- 1 the state record can't exist; 2 ROM length is not allowed; 3 RAM length is not allowed; 4 image or frame store is not 16,384 bytes;
--- 5 address is outside 0000-7FFF and A000-BFFF. A call that is not lent a thing can't be refused for it
-unfoldable pub readRows : Controller → List ℕ → List ℕ → ℕ → List Bool
-readRows c rom ram a =
-    cantExist c ∷ not (romAllowed (length rom)) ∷ not (ramAllowed (length ram)) ∷ false ∷ not (onCartridge a) ∷ []
-
-unfoldable pub writeRows : Controller → List ℕ → List ℕ → List ℕ → ℕ → List Bool
-writeRows c ram store image a =
-    cantExist c
-    ∷ false
-    ∷ not (ramAllowed (length ram))
-    ∷ not (frameAllowed (length store) && frameAllowed (length image))
-    ∷ not (onCartridge a)
-    ∷ []
-
-unfoldable pub tickRows : Controller → List ℕ → List ℕ → List Bool
-tickRows c ram store =
-    cantExist c ∷ false ∷ not (ramAllowed (length ram)) ∷ not (frameAllowed (length store)) ∷ false ∷ []
+-- a call that is given no number is done, and any other is refused with its number
+abbrev pub judged : {O : Type 0} → ℕ → (ℕ → O) → O → O
+judged zero refused done = done
+judged (suc n) refused done = refused (suc n)

@@ -3,11 +3,13 @@ use super::Controller;
 use super::Cycles;
 use super::ReadAnswer;
 use super::ReadDone;
-use super::Refusal;
+use super::Verdict;
 use super::WriteAnswer;
 use super::WriteDone;
-use super::state::ram_allowed;
-use super::state::rom_allowed;
+use super::judge::no_frame;
+use super::judge::no_place;
+use super::judge::no_ram;
+use super::judge::no_rom;
 ghost use mathlib.Core.Path.{_≡_};
 ghost use mathlib.Core.Bool.{Bool, true, false};
 ghost use mathlib.Core.List.{List};
@@ -15,10 +17,11 @@ ghost use Prim.Native.Nat.{ℕ, _+_, _*_, _/_, _%_, _<_, _≤_};
 ghost use lib.ListN.{length, getD, set};
 ghost use Rattle.controller.specs.Lent.{romAllowed, ramAllowed};
 ghost use Rattle.controller.specs.State.{started};
-ghost use Rattle.controller.specs.Outcome.{readOutcome, writeOutcome};
-ghost use Rattle.controller.specs.Bus.{onCartridge, registersOn, registerRead, ramRead, romRead, byteRead, enable, controlWritten, isStart, captureWritten, registerWritten, storeWritten, ramWritten, byteWritten, Left, left};
+ghost use Rattle.controller.specs.Outcome.{verdictNumber, readOutcome, writeOutcome};
+ghost use Rattle.controller.specs.Bus.{registersOn, registerRead, ramRead, romRead, byteRead, enable, controlWritten, isStart, captureWritten, registerWritten, storeWritten, ramWritten, byteWritten, Left, left};
 ghost use Rattle.controller.specs.Capture.{begun};
-ghost use Rattle.controller.specs.Calls.{readMeans, writeMeans};
+ghost use Rattle.controller.specs.Table.{lowest};
+ghost use Rattle.controller.specs.Calls.{readRows, readMeans, writeRows, writeMeans};
 
 // The bank of a number in so many bytes of banks of a size: taken modulo their count.
 fn bank_place(number: u8, len: usize, size: usize) -> usize
@@ -26,19 +29,6 @@ fn bank_place(number: u8, len: usize, size: usize) -> usize
     ensures { λ r. ⌜ r ≡ number % (len / size) * size ⌝ }
 {
     number as usize % (len / size) * size
-}
-
-// Whether an address is on the cartridge: 0000-7FFF and A000-BFFF.
-fn on_cartridge(address: u16) -> bool
-    ensures { λ r. ⌜ r ≡ onCartridge address ⌝ }
-{
-    if address < 0x8000 {
-        return true;
-    }
-    if address < 0xA000 {
-        return false;
-    }
-    address < 0xC000
 }
 
 // Copies the image to the frame store.
@@ -118,32 +108,23 @@ impl Controller {
         self.ram_read(ram, address)
     }
 
+    // What a read was lent, judged.
+    fn judge_read(self, rom: &[u8], ram: &[u8], address: u16) -> Verdict
+        ensures { λ r. ⌜ verdictNumber r ≡ lowest (readRows self (now (rom .entry)) (now (ram .entry)) address) ⌝ }
+    {
+        let place = no_place(address, Verdict::Fits);
+        self.no_state(no_rom(rom.len(), no_ram(ram.len(), place)))
+    }
+
     // A read: lent ROM and RAM.
     pub fn read(self, rom: &[u8], ram: &[u8], address: u16) -> ReadDone
         ensures { λ r. ⌜ readOutcome r (now (ram .entry)) ≡ readMeans self (now (rom .entry)) (now (ram .entry)) address ⌝ }
     {
-        if !self.exists() {
+        let verdict = self.judge_read(rom, ram, address);
+        if let Verdict::Refused(why) = verdict {
             return ReadDone {
                 state: self,
-                answer: ReadAnswer::Refused(Refusal::State),
-            };
-        }
-        if !rom_allowed(rom.len()) {
-            return ReadDone {
-                state: self,
-                answer: ReadAnswer::Refused(Refusal::Rom),
-            };
-        }
-        if !ram_allowed(ram.len()) {
-            return ReadDone {
-                state: self,
-                answer: ReadAnswer::Refused(Refusal::Ram),
-            };
-        }
-        if !on_cartridge(address) {
-            return ReadDone {
-                state: self,
-                answer: ReadAnswer::Refused(Refusal::Address),
+                answer: ReadAnswer::Refused(why),
             };
         }
         let byte = self.byte_read(rom, ram, address);
@@ -281,6 +262,15 @@ impl Controller {
         self
     }
 
+    // What a write was lent, judged.
+    fn judge_write(self, ram: &[u8], store: &[u8], image: &[u8], address: u16) -> Verdict
+        ensures { λ r. ⌜ verdictNumber r ≡ lowest (writeRows self (now (ram .entry)) (now (store .entry)) (now (image .entry)) address) ⌝ }
+    {
+        let place = no_place(address, Verdict::Fits);
+        let frames = no_frame(store.len(), no_frame(image.len(), place));
+        self.no_state(no_ram(ram.len(), frames))
+    }
+
     // A write: lent RAM, frame store and image.
     pub fn write(
         self,
@@ -292,34 +282,11 @@ impl Controller {
     ) -> WriteDone
         ensures { λ r. ⌜ writeOutcome r (now (ram .exit)) (now (store .exit)) ≡ writeMeans self (now (ram .entry)) (now (store .entry)) (now (image .entry)) address value ⌝ }
     {
-        if !self.exists() {
+        let verdict = self.judge_write(ram, store, image, address);
+        if let Verdict::Refused(why) = verdict {
             return WriteDone {
                 state: self,
-                answer: WriteAnswer::Refused(Refusal::State),
-            };
-        }
-        if !ram_allowed(ram.len()) {
-            return WriteDone {
-                state: self,
-                answer: WriteAnswer::Refused(Refusal::Ram),
-            };
-        }
-        if store.len() != Controller::FRAME {
-            return WriteDone {
-                state: self,
-                answer: WriteAnswer::Refused(Refusal::Frame),
-            };
-        }
-        if image.len() != Controller::FRAME {
-            return WriteDone {
-                state: self,
-                answer: WriteAnswer::Refused(Refusal::Frame),
-            };
-        }
-        if !on_cartridge(address) {
-            return WriteDone {
-                state: self,
-                answer: WriteAnswer::Refused(Refusal::Address),
+                answer: WriteAnswer::Refused(why),
             };
         }
         let next = self.byte_write(ram, store, image, address, value);

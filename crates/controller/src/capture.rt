@@ -2,11 +2,12 @@
 use super::Clocks;
 use super::Controller;
 use super::Cycles;
-use super::Refusal;
 use super::TickAnswer;
 use super::TickDone;
+use super::Verdict;
+use super::judge::no_frame;
+use super::judge::no_ram;
 use super::state::exposure;
-use super::state::ram_allowed;
 use super::state::total;
 use sensor::Setting;
 ghost use mathlib.Core.Path.{_≡_};
@@ -18,8 +19,9 @@ ghost use Rattle.controller.specs.Timing.{clocks, totalOf};
 ghost use Rattle.tiles.specs.Bulk.{pixels};
 ghost use Rattle.controller.specs.Bulk.{pictureFrom, doneBy};
 ghost use Rattle.controller.specs.Capture.{moved, ended, running, ticks, from};
-ghost use Rattle.controller.specs.Outcome.{outcome, tickOutcome};
-ghost use Rattle.controller.specs.Calls.{refusal, ticked, tickMeans};
+ghost use Rattle.controller.specs.Outcome.{verdictNumber, outcome, tickOutcome};
+ghost use Rattle.controller.specs.Table.{lowest};
+ghost use Rattle.controller.specs.Calls.{ticked, tickRows, tickMeans};
 
 impl Cycles {
     // Two cycles make one clock: the only place where cycles become clocks.
@@ -120,16 +122,6 @@ impl Controller {
         }
     }
 
-    // The answer to a tick that is refused: the state given.
-    fn refuse_tick(self, why: Refusal) -> TickDone
-        ensures { λ r. ⌜ ((ram store : List ℕ) → tickOutcome r ram store ≡ refusal why self ram store) ⌝ }
-    {
-        TickDone {
-            state: self,
-            answer: TickAnswer::Refused(why),
-        }
-    }
-
     // n cycles of a running capture.
     fn run(self, ram: &mut [u8], store: &[u8], n: u32) -> TickDone
         requires { ⌜ (running self ≡ true) × (self .elapsed .0 < totalOf (self .taken)) × (8192 ≤ length (now ram)) × (length (now store) ≡ 16384) ⌝ }
@@ -148,18 +140,24 @@ impl Controller {
         self.at_end().ran(left)
     }
 
+    // What a tick was lent, judged.
+    fn judge_tick(self, ram: &[u8], store: &[u8]) -> Verdict
+        ensures { λ r. ⌜ verdictNumber r ≡ lowest (tickRows self (now (ram .entry)) (now (store .entry))) ⌝ }
+    {
+        let frame = no_frame(store.len(), Verdict::Fits);
+        self.no_state(no_ram(ram.len(), frame))
+    }
+
     // A tick of n cycles: lent RAM and frame store. It answers how many of them fell while a capture was running.
     pub fn tick(self, ram: &mut [u8], store: &[u8], n: u32) -> TickDone
         ensures { λ r. ⌜ tickOutcome r (now (ram .exit)) (now (store .entry)) ≡ tickMeans self (now (ram .entry)) (now (store .entry)) n ⌝ }
     {
-        if !self.exists() {
-            return self.refuse_tick(Refusal::State);
-        }
-        if !ram_allowed(ram.len()) {
-            return self.refuse_tick(Refusal::Ram);
-        }
-        if store.len() != Controller::FRAME {
-            return self.refuse_tick(Refusal::Frame);
+        let verdict = self.judge_tick(ram, store);
+        if let Verdict::Refused(why) = verdict {
+            return TickDone {
+                state: self,
+                answer: TickAnswer::Refused(why),
+            };
         }
         // Cycles while no capture is running change nothing.
         if !self.is_running() {

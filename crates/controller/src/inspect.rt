@@ -1,7 +1,7 @@
 // Matrix inspection: the first element whose three values don't rise or stay level.
 use super::Controller;
 use super::Element;
-use super::Refusal;
+use super::Verdict;
 ghost use mathlib.Core.Path.{_≡_};
 ghost use mathlib.Core.Bool.{Bool};
 ghost use Prim.Native.Nat.{ℕ, _+_, _*_, _<_, _≤_};
@@ -41,8 +41,9 @@ impl Controller {
     pub fn inspect(self) -> Element
         ensures { λ r. ⌜ inspection r ≡ inspectMeans self ⌝ }
     {
-        if !self.exists() {
-            return Element::Refused(Refusal::State);
+        let verdict = self.no_state(Verdict::Fits);
+        if let Verdict::Refused(why) = verdict {
+            return Element::Refused(why);
         }
         let regs = self.registers;
         let first = first_reversed(&regs);

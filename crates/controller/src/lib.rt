@@ -1,8 +1,9 @@
 // The controller of the camera cartridge: the state record, refusals and answers. The modules follow the paper's headings:
-// state (which records can exist, sizes lent), bus (read and write), capture (ticks), picture (afresh and whole), inspect.
+// state (which records can exist, sizes lent), judge (refusals), bus (read and write), capture (ticks), picture (afresh and whole), inspect.
 mod bus;
 mod capture;
 mod inspect;
+mod judge;
 mod picture;
 mod state;
 
@@ -30,6 +31,12 @@ pub enum Refusal {
     Frame,
     Address,
     Line,
+}
+
+// What judging a call comes to.
+pub enum Verdict {
+    Fits,
+    Refused(Refusal),
 }
 
 pub enum ReadAnswer {

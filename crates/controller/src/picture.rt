@@ -1,7 +1,8 @@
 // The picture afresh, as a call.
 use super::Controller;
-use super::Refusal;
+use super::Verdict;
 use super::WriteAnswer;
+use super::judge::no_frame;
 use sensor::Setting;
 ghost use mathlib.Core.Path.{_≡_};
 ghost use Rattle.controller.specs.Outcome.{writeNumber};
@@ -12,8 +13,9 @@ impl Controller {
     pub fn picture(frame: &[u8], regs: [u8; 54], out: &mut [u8; 3584]) -> WriteAnswer
         ensures { λ r. ⌜ afresh (writeNumber r) (now (out .exit)) ≡ pictureMeans (now (frame .entry)) regs (now (out .entry)) ⌝ }
     {
-        if frame.len() != Controller::FRAME {
-            return WriteAnswer::Refused(Refusal::Frame);
+        let verdict = no_frame(frame.len(), Verdict::Fits);
+        if let Verdict::Refused(why) = verdict {
+            return WriteAnswer::Refused(why);
         }
         let set = Setting::of(&regs);
         tiles::fill(frame, set, &regs, out);

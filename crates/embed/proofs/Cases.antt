@@ -22,25 +22,25 @@ use Rattle.controller.specs.declared.TickDone.{TickDone}
 use Rattle.controller.specs.State.{resetState}
 use Rattle.tiles.specs.Tiles.{Bytes}
 use Rattle.controller.specs.Outcome.{Outcome, outcome, numberOf, readNumber, readValue, readOutcome, writeNumber, writeOutcome, tickNumber, tickValue, tickOutcome, inspection}
-use Rattle.controller.specs.Calls.{readMeans, writeMeans, tickMeans}
+use Rattle.controller.specs.Calls.{refusal, readRows, readMeans, writeMeans, tickMeans}
 use Rattle.controller.specs.Inspect.{inspectMeans}
-use Rattle.controller.specs.Table.{lowest, readRows}
+use Rattle.controller.specs.Table.{Row, lowest}
 use Rattle.controller.specs.Picture.{afresh, pictureMeans}
 use Rattle.controller.proofs.Only.{some-number}
-use Rattle.controller.proofs.Refusals.{Refuses, read-refuses, write-refuses, tick-refuses}
+use Rattle.controller.proofs.Refusals.{Refuses, inOutcome, read-refuses, write-refuses, tick-refuses}
 use Rattle.embed.specs.Layout.{encoded, isRecord, decoded}
 use Rattle.embed.specs.Packed.{packed}
 use Rattle.embed.specs.Exports.{called, asBytes, noRecord, unread, resetBytes, readBytes, writeBytes, tickBytes, inspected, inspectBytes, drawn, asDrawn, pictureBytes}
 use Rattle.embed.proofs.Inverse.{encode-decode}
 
 -- an outcome with a number hands back the state given and changes no byte lent
-pub kept : {rows : List Bool} {c : Controller} {ram store : List ℕ} {o done : Outcome} → Refuses rows c ram store o done
+pub kept : {rows : List Row} {c : Controller} {ram store : List ℕ} {o done : Outcome} → Refuses rows inOutcome (refusal c ram store) o done
     → (n : ℕ) → (0 ≡ n → ⊥) → o .number ≡ n → o ≡ outcome n 0 c ram store
 kept r zero some e = absurd (some refl)
-kept r (suc k) some e = r .kept k (sym (r .number) ∙ e)
+kept r (suc k) some e = r .kept k (sym (r .numbered) ∙ e)
 
 -- so do its bytes: what a call left that was refused is what it was lent
-module _ (s ram store : List ℕ) (bytes : Bytes s) (h : isRecord s ≡ true) {rows : List Bool} {o done : Outcome} (r : Refuses rows (decoded s) ram store o done) where
+module _ (s ram store : List ℕ) (bytes : Bytes s) (h : isRecord s ≡ true) {rows : List Row} {o done : Outcome} (r : Refuses rows inOutcome (refusal (decoded s) ram store) o done) where
   pub unchanged : (why : Refusal) (c : Controller) (ram′ store′ : List ℕ) → outcome (numberOf why) 0 c ram′ store′ ≡ o → called (packed (numberOf why) 0) s ram′ store′ ≡ asBytes o
   unchanged why c ram′ store′ e =
       let k : o ≡ outcome (numberOf why) 0 (decoded s) ram store = kept r (numberOf why) (some-number why) (sym (λ i. e i .number)) in

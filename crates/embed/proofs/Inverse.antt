@@ -10,7 +10,7 @@ use lib.Seq.{take-at, drop-at, take-all, drop-drop, drop-cons}
 use borrow.Author.Tests.{eqb-true, leb-true, eq-eqb}
 use Rattle.controller.specs.declared.Controller.{Controller}
 use Rattle.tiles.specs.Tiles.{Bytes}
-use Rattle.controller.proofs.Lent.{both-left, both-right}
+use Rattle.laws.proofs.Bools.{both-left, both-right}
 use Rattle.embed.specs.Layout.{flag, lowFirst, encoded, isRecord, fourAt, registersAt, decoded}
 
 -- ---- a flag

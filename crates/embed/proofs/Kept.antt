@@ -1,11 +1,14 @@
 -- A refused call leaves the state bytes, the RAM and the frame store as they were. Assumes nothing.
 use mathlib.Core.Path.{_≡_, refl, sym, _∙_}
-use mathlib.Core.Bool.{Bool, true}
+use mathlib.Core.Bool.{true}
 use mathlib.Core.List.{List}
 use Prim.Native.Nat.{ℕ, _/_, _<_}
 use Rattle.tiles.specs.Tiles.{Bytes}
 use Rattle.controller.specs.Outcome.{Outcome}
-use Rattle.controller.proofs.Refusals.{either, Refuses, write-refuses, tick-refuses}
+use Rattle.controller.specs.Table.{Row}
+use Rattle.controller.specs.Calls.{refusal}
+use Rattle.controller.proofs.Refusals.{Refuses, inOutcome, write-refuses, tick-refuses}
+use Rattle.laws.proofs.Bools.{either}
 use Rattle.embed.specs.Layout.{encoded, isRecord, decoded}
 use Rattle.embed.specs.Exports.{Called, asBytes, writeBytes, tickBytes}
 use Rattle.embed.proofs.Inverse.{encode-decode}
@@ -18,7 +21,7 @@ pub record Keeps (c : Called) (s m f : List ℕ) : Type 0 where
   pub store : c .store ≡ f
 
 module _ (s ram store : List ℕ) (bytes : Bytes s) where
-  keeps : isRecord s ≡ true → {rows : List Bool} {o done : Outcome} → Refuses rows (decoded s) ram store o done → (0 ≡ o .number → ⊥) → Keeps (asBytes o) s ram store
+  keeps : isRecord s ≡ true → {rows : List Row} {o done : Outcome} → Refuses rows inOutcome (refusal (decoded s) ram store) o done → (0 ≡ o .number → ⊥) → Keeps (asBytes o) s ram store
   keeps h {rows} {o} {done} r some =
       let k = kept r (o .number) some refl in
       record {

@@ -18,10 +18,11 @@ use Rattle.controller.specs.State.{cantExist, allZero, leftOver}
 use Rattle.tiles.specs.Tiles.{Bytes}
 use Rattle.controller.specs.Bus.{registersOn, withEnabled, withBank, withSelect, withRegister, controlWritten, isStart, captureWritten, registerWritten, Left, byteWritten}
 use Rattle.controller.specs.Capture.{Ticking, begun, moved, ended, running, runs, cycle, ticks, from}
-use Rattle.controller.specs.Calls.{writeMeans, tickMeans}
-use Rattle.controller.specs.Table.{lowest, writeRows, tickRows}
+use Rattle.controller.specs.Calls.{writeRows, tickRows, writeMeans, tickMeans}
+use Rattle.controller.specs.Table.{lowest}
 use Rattle.controller.proofs.Exists.{neither-left, exists-parts, before-total}
-use Rattle.controller.proofs.Refusals.{either, write-refuses, tick-refuses}
+use Rattle.controller.proofs.Refusals.{write-refuses, tick-refuses, tick-fits}
+use Rattle.laws.proofs.Bools.{either}
 use Rattle.controller.proofs.TickSum.{Kept, ticks-keep, again, after, tick-sum}
 use Rattle.embed.specs.Layout.{encoded, isRecord, fourAt, decoded}
 use Rattle.embed.specs.Packed.{packed}
@@ -54,11 +55,6 @@ taken-bytes (suc n) (x ∷ l) b zero = b 0
 taken-bytes (suc n) (x ∷ l) b (suc i) = taken-bytes n l (λ j. b (suc j)) i
 
 -- ---- a tick
-
--- a tick that is not refused is given a record that can exist
-exists : (c : Controller) (ram store : List ℕ) → lowest (tickRows c ram store) ≡ 0 → cantExist c ≡ false
-unfolding tickRows lowest
-exists c ram store e = either (cantExist c) (λ t. absurd (let z : _≡_ {A = ℕ} 1 0 = simp t at e in omega arith)) (λ f. f)
 
 -- 54 registers, and 54 bytes taken
 record Sized (c : Controller) : Type 0 where
@@ -181,7 +177,7 @@ module _ (s ram store : List ℕ) (bytes : Bytes s) (h : isRecord s ≡ true) wh
   tick-whole n = by-number (lowest (tickRows (decoded s) ram store)) refl
     where
       by-number : (k : ℕ) → lowest (tickRows (decoded s) ram store) ≡ k → Whole (tickMeans (decoded s) ram store n .state)
-      by-number zero e = rw (tick-refuses (decoded s) ram store n .does e) (ticks-whole store ram n (decoded s) (exists (decoded s) ram store e) sized)
+      by-number zero e = rw (tick-refuses (decoded s) ram store n .does e) (ticks-whole store ram n (decoded s) (tick-fits (decoded s) ram store e .exists) sized)
       by-number (suc k) e = rw (tick-refuses (decoded s) ram store n .kept k e) whole
 
   pub write-left : (image : List ℕ) (a v : ℕ) → Reads (writeBytes s ram store image a v .state) (writeMeans (decoded s) ram store image a v .state)

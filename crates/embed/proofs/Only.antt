@@ -9,15 +9,15 @@ use borrow.Author.Tests.{ltb-true}
 use Rattle.laws.specs.Iter.{iter}
 use Rattle.laws.proofs.Pick.{pick-ind}
 use Rattle.controller.specs.declared.Controller.{Controller}
-use Rattle.controller.specs.State.{cantExist, started}
+use Rattle.controller.specs.State.{started}
 use Rattle.tiles.specs.Tiles.{Bytes}
 use Rattle.controller.specs.Outcome.{Outcome, Inspection}
 use Rattle.controller.specs.Bus.{registersOn, romRead, byteRead}
 use Rattle.controller.specs.Capture.{Ticking, running, runs, cycle, ticks, from}
-use Rattle.controller.specs.Calls.{readMeans, writeMeans, tickMeans}
-use Rattle.controller.specs.Inspect.{firstIn, named, inspectMeans}
-use Rattle.controller.specs.Table.{lowest}
-use Rattle.controller.proofs.Refusals.{Refuses, read-refuses, write-refuses, tick-refuses}
+use Rattle.controller.specs.Calls.{refusal, readMeans, writeMeans, tickMeans}
+use Rattle.controller.specs.Inspect.{firstIn, named, inspectMeans, inspectRows}
+use Rattle.controller.specs.Table.{Row, lowest}
+use Rattle.controller.proofs.Refusals.{Refuses, inOutcome, read-refuses, write-refuses, tick-refuses, judged-ind}
 use Rattle.embed.specs.Layout.{isRecord, decoded}
 use Rattle.embed.specs.Packed.{packed}
 use Rattle.embed.specs.Exports.{readBytes, writeBytes, tickBytes, elementValue, inspectBytes}
@@ -39,7 +39,7 @@ only-packed m n v w hv hw e =
     (sym (p .number) ∙ ap (λ k. k / 4294967296) e ∙ q .number, sym (p .value) ∙ ap (λ k. k % 4294967296) e ∙ q .value)
 
 -- a refusal's value is 0, so an outcome's value is below 2^32 where that of what is done is
-small : {rows : List Bool} {c : Controller} {ram store : List ℕ} {o done : Outcome} → Refuses rows c ram store o done → done .value < 4294967296 → o .value < 4294967296
+small : {rows : List Row} {c : Controller} {ram store : List ℕ} {o done : Outcome} → Refuses rows inOutcome (refusal c ram store) o done → done .value < 4294967296 → o .value < 4294967296
 small {rows} {c} {ram} {store} {o} {done} r h = by-number (lowest rows) refl
   where
     by-number : (n : ℕ) → lowest rows ≡ n → o .value < 4294967296
@@ -73,7 +73,7 @@ named-small k = pick-ind (λ (i : Inspection). elementValue i < 4294967296) (ltb
 
 inspect-small : (c : Controller) → elementValue (inspectMeans c) < 4294967296
 unfolding inspectMeans
-inspect-small c = pick-ind (λ (i : Inspection). elementValue i < 4294967296) (cantExist c) (λ t. omega arith) (λ t. named-small (firstIn (c .registers) 0 16))
+inspect-small c = judged-ind (λ (i : Inspection). elementValue i < 4294967296) (lowest (inspectRows c)) (λ k. omega arith) (named-small (firstIn (c .registers) 0 16))
 
 -- each answer says the controller's number and value
 pub read-says : (s rom ram : List ℕ) (a : ℕ) → Bytes rom → Bytes ram → isRecord s ≡ true

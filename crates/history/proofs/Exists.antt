@@ -14,7 +14,7 @@ use Rattle.controller.specs.State.{started, zeroTo, leftOver, wrongCapture, can
 use Rattle.controller.specs.Capture.{begun}
 use Rattle.controller.specs.Bus.{withEnabled, withBank, withSelect, withRegister, isStart}
 use Rattle.controller.proofs.Exists.{Exists, exists-parts, exists-whole}
-use Rattle.controller.proofs.Lent.{both-left}
+use Rattle.laws.proofs.Bools.{both-left}
 
 -- reset
 pub exists-reset : cantExist resetState ≡ false

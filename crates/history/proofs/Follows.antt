@@ -20,8 +20,11 @@ use Rattle.controller.specs.Capture as capture
 use Rattle.controller.specs.Bus.{Left, left, onCartridge, byteWritten, controlWritten, registerWritten, storeWritten, captureWritten, ramWritten, ramWritable, withBank, withRegister, withEnabled, withSelect, isStart, registersOn}
 use Rattle.controller.specs.Lent.{romAllowed, ramAllowed, frameAllowed}
 use Rattle.controller.specs.Outcome.{Outcome}
-use Rattle.controller.specs.Calls.{readMeans, writeMeans, tickMeans}
-use Rattle.controller.proofs.Lent.{frame-lent, both-left, both-right}
+use Rattle.controller.specs.Table.{lowest}
+use Rattle.controller.specs.Calls.{readRows, readMeans, writeRows, writeMeans, tickRows, tickMeans}
+use Rattle.controller.proofs.Refusals.{write-refuses, tick-refuses, judged-ind, judged-pick, write-none, tick-lent}
+use Rattle.controller.proofs.Lent.{frame-lent}
+use Rattle.laws.proofs.Bools.{both-left, both-right}
 use Rattle.controller.proofs.Exists.{before-total}
 use Rattle.controller.proofs.Ticks.{idle, going, over}
 use Rattle.tiles.proofs.Pixels.{pixels-length}
@@ -38,14 +41,6 @@ use Rattle.history.proofs.Reachable.{Sound, reset-sound, call-sound}
 abbrev worldOf : Left → World
 worldOf l = record { state = l .state; ram = l .ram; store = l .store }
 
--- what is not refused is done, and what is refused changes nothing
-nest : (p q r : Bool) (x a b c : Outcome) (w : World) → leftBy a ≡ w → leftBy b ≡ w → leftBy c ≡ w
-    → leftBy (pick p (pick q (pick r x a) b) c) ≡ pick (p && (q && r)) (leftBy x) w
-nest true true true x a b c w e f g = refl
-nest true true false x a b c w e f g = e
-nest true false r x a b c w e f g = f
-nest false q r x a b c w e f g = g
-
 pub write-leaves : (w : World) (image : List ℕ) (a v : ℕ) → cantExist (w .state) ≡ false
     → leaves w (write image a v)
     ≡ pick (ramAllowed (length (w .ram)) && ((frameAllowed (length (w .store)) && frameAllowed (length image)) && onCartridge a))
@@ -53,8 +48,8 @@ pub write-leaves : (w : World) (image : List ℕ) (a v : ℕ) → cantExist (w .
     w
 unfolding leaves writeMeans
 write-leaves w image a v e =
-    rw e
-    (nest (ramAllowed (length (w .ram))) (frameAllowed (length (w .store)) && frameAllowed (length image)) (onCartridge a) _ _ _ _ w refl refl refl)
+    judged-pick leftBy (lowest (writeRows (w .state) (w .ram) (w .store) image a)) _ w (λ k. refl)
+    ∙ ap (λ t. pick t (worldOf (byteWritten (w .state) (w .ram) (w .store) image a v)) w) (write-none (w .state) (w .ram) (w .store) image a e)
 
 -- a write leaves the RAM's length
 pub ram-length : (c : Controller) (ram : List ℕ) (a v : ℕ) → length (ramWritten c ram a v) ≡ length ram
@@ -67,36 +62,12 @@ sizes store image h =
     frame-lent (length store) (both-left (frameAllowed (length store)) (frameAllowed (length image)) h)
     ∙ sym (frame-lent (length image) (both-right (frameAllowed (length store)) (frameAllowed (length image)) h))
 
--- a refusal number is given to just what is not done
-numbered : (p q r : Bool) (x a b c : Outcome) → eqb (x .number) 0 ≡ true → eqb (a .number) 0 ≡ false → eqb (b .number) 0 ≡ false → eqb (c .number) 0 ≡ false
-    → eqb (pick p (pick q (pick r x a) b) c .number) 0 ≡ (p && (q && r))
-numbered true true true x a b c d e f g = d
-numbered true true false x a b c d e f g = e
-numbered true false r x a b c d e f g = f
-numbered false q r x a b c d e f g = g
-
 -- ---- a tick
-
-tick-numbered : (p q : Bool) (x a b : Outcome) → eqb (x .number) 0 ≡ true → eqb (a .number) 0 ≡ false → eqb (b .number) 0 ≡ false
-    → eqb (pick p (pick q x a) b .number) 0 ≡ (p && q)
-tick-numbered true true x a b d e f = d
-tick-numbered true false x a b d e f = e
-tick-numbered false q x a b d e f = f
 
 -- the paper's figure is the controller's
 pub cycles-total : (regs : List ℕ) → cyclesOf regs ≡ totalOf regs
 unfolding cyclesOf totalOf exposureOf
 cycles-total regs = refl
-
-tick-nest : (p q : Bool) (x a b : Outcome) (w : World) → leftBy a ≡ w → leftBy b ≡ w → leftBy (pick p (pick q x a) b) ≡ pick (p && q) (leftBy x) w
-tick-nest true true x a b w e f = refl
-tick-nest true false x a b w e f = e
-tick-nest false q x a b w e f = f
-
-tick-value : (p q : Bool) (x a b : Outcome) → a .value ≡ 0 → b .value ≡ 0 → pick p (pick q x a) b .value ≡ pick (p && q) (x .value) 0
-tick-value true true x a b e f = refl
-tick-value true false x a b e f = e
-tick-value false q x a b e f = f
 
 module _ (w : World) (n : ℕ) (exists : cantExist (w .state) ≡ false) where
   abbrev lent : Bool
@@ -107,11 +78,15 @@ module _ (w : World) (n : ℕ) (exists : cantExist (w .state) ≡ false) where
 
   pub tick-leaves : leaves w (tick n) ≡ pick lent (record { state = moving .state; ram = moving .ram; store = w .store }) w
   unfolding leaves tickMeans
-  tick-leaves = rw exists (tick-nest (ramAllowed (length (w .ram))) (frameAllowed (length (w .store))) _ _ _ w refl refl)
+  tick-leaves =
+      judged-pick leftBy (lowest (tickRows (w .state) (w .ram) (w .store))) _ w (λ k. refl)
+      ∙ ap (λ t. pick t (record { state = moving .state; ram = moving .ram; store = w .store }) w) (tick-lent (w .state) (w .ram) (w .store) exists)
 
   pub tick-count : countIn (answers w (tick n)) ≡ pick lent (moving .ran) 0
   unfolding answers tickMeans
-  tick-count = rw exists (tick-value (ramAllowed (length (w .ram))) (frameAllowed (length (w .store))) _ _ _ refl refl)
+  tick-count =
+      judged-pick (λ (o : Outcome). o .value) (lowest (tickRows (w .state) (w .ram) (w .store))) _ 0 (λ k. refl)
+      ∙ ap (λ t. pick t (moving .ran) 0) (tick-lent (w .state) (w .ram) (w .store) exists)
 
 -- ---- call by call
 
@@ -308,12 +283,7 @@ module _ (w : World) (im : List ℕ) (own : w .state .held ≡ true → w .store
     -- a read changes nothing
     read-leaves : (rom : List ℕ) (a : ℕ) → leaves w (read rom a) ≡ w
     unfolding leaves readMeans
-    read-leaves rom a =
-        pick-ind Same (cantExist c) (λ _. refl)
-        (λ _.
-        pick-ind Same (romAllowed (length rom))
-        (λ _. pick-ind Same (ramAllowed (length (w .ram))) (λ _. pick-ind Same (onCartridge a) (λ _. refl) (λ _. refl)) (λ _. refl))
-        (λ _. refl))
+    read-leaves rom a = judged-ind Same (lowest (readRows c rom (w .ram) a)) (λ k. refl) refl
       where
         Same : Outcome → Type 0
         Same o = _≡_ {A = World} (record { state = o .state; ram = o .ram; store = w .store }) w
@@ -349,12 +319,14 @@ module _ (w : World) (im : List ℕ) (own : w .state .held ≡ true → w .store
 
     -- what is told accepted is answered with no refusal
     write-number : (image : List ℕ) (a v : ℕ) → eqb (refusalIn (answers w (write image a v))) 0 ≡ writeAccepted (seen w im) image a
-    unfolding answers writeMeans writeAccepted
-    write-number image a v = rw exists (numbered (ramAllowed (length (w .ram))) (frames image) (onCartridge a) _ _ _ _ refl refl refl refl)
+    unfolding answers writeAccepted
+    write-number image a v =
+        ap (λ (n : ℕ). eqb n 0) (write-refuses c (w .ram) (w .store) image a v .numbered) ∙ write-none c (w .ram) (w .store) image a exists
 
     tick-number : (n : ℕ) → eqb (refusalIn (answers w (tick n))) 0 ≡ tickAccepted (seen w im)
-    unfolding answers tickMeans tickAccepted
-    tick-number n = rw exists (tick-numbered (ramAllowed (length (w .ram))) (frameAllowed (length (w .store))) _ _ _ refl refl refl)
+    unfolding answers tickAccepted
+    tick-number n =
+        ap (λ (m : ℕ). eqb m 0) (tick-refuses c (w .ram) (w .store) n .numbered) ∙ tick-lent c (w .ram) (w .store) exists
 
     -- ---- the RAM
 

@@ -9,7 +9,7 @@ use lib.ListN.{set}
 use borrow.Author.Tests.{not-true, eqb-true}
 use Rattle.laws.specs.Bits.{isSet}
 use Rattle.laws.proofs.Pick.{pick-ind}
-use Rattle.controller.proofs.Lent.{both-left, both-right}
+use Rattle.laws.proofs.Bools.{both-left, both-right}
 use Rattle.history.specs.History.{Call, reset, read, write, tick, inspect, World, fresh, leaves, answers, countIn, after, counted}
 use Rattle.history.specs.Track.{Track, atReset, writeAccepted, cyclesOf, runsIn, ends, toRegisters, starts, imageIn, registersAt, enabling, selecting, storing, beginning, running, ending, controlled, registered, written, next, follow, told}
 use Rattle.history.specs.Since.{isReset, goesOn, Held, Whole}

@@ -18,7 +18,8 @@ use Rattle.tiles.specs.Tiles.{place, shadeIn}
 use Rattle.tiles.specs.Picture.{pictureShade}
 use Rattle.tiles.specs.Bulk.{pixels}
 use Rattle.controller.specs.Bulk.{pictureFrom, doneBy}
-use Rattle.controller.proofs.Lent.{both-left, both-right, ram-lent}
+use Rattle.controller.proofs.Lent.{ram-lent}
+use Rattle.laws.proofs.Bools.{both-left, both-right}
 use Rattle.controller.proofs.Exists.{neither-left, neither-right}
 use Rattle.tiles.proofs.Run.{pixels-none}
 use Rattle.controller.proofs.Range.{timed, done-mono, done-most, done-low}

@@ -11,7 +11,8 @@ use borrow.Author.Tests.{eqb-true, eqb-false, le-leb}
 use Rattle.laws.specs.Pick.{pick}
 use Rattle.laws.proofs.Pick.{pick-ind}
 use Rattle.controller.specs.Lent.{ramAllowed}
-use Rattle.controller.proofs.Lent.{both-left, ram-inside}
+use Rattle.controller.proofs.Lent.{ram-inside}
+use Rattle.laws.proofs.Bools.{both-left}
 use Rattle.controller.proofs.Range.{done-most}
 use Rattle.tiles.proofs.Pixels.{pixels-length, pixels-outside}
 use Rattle.history.specs.History.{Call, reset, read, write, tick, inspect, World, fresh, leaves, after}

@@ -14,7 +14,8 @@ use Rattle.controller.specs.Lent.{ramAllowed}
 use Rattle.tiles.specs.Tiles.{place, shadeIn, areaOf, Bytes}
 use Rattle.tiles.specs.Picture.{pictureShade, pictureOf}
 use Rattle.controller.specs.Bulk.{doneBy}
-use Rattle.controller.proofs.Lent.{both-left, both-right, ram-lent}
+use Rattle.controller.proofs.Lent.{ram-lent}
+use Rattle.laws.proofs.Bools.{both-left, both-right}
 use Rattle.tiles.proofs.Run.{pixels-none}
 use Rattle.controller.proofs.Range.{done-all, done-most}
 use Rattle.tiles.proofs.Pixels.{pixels-bytes}

@@ -15,9 +15,11 @@ use Rattle.controller.specs.State.{cantExist, resetState}
 use Rattle.controller.specs.Capture.{begun, moved, ended, Ticking, cycle, runs, running, ticks, from}
 use Rattle.controller.specs.Bus.{Left, onCartridge, byteWritten, controlWritten, registerWritten, captureWritten, withBank, withRegister, withEnabled, withSelect, isStart, registersOn}
 use Rattle.controller.specs.Lent.{romAllowed, ramAllowed, frameAllowed}
-use Rattle.controller.specs.Outcome.{Outcome, Inspection}
-use Rattle.controller.specs.Calls.{readMeans, writeMeans, tickMeans}
-use Rattle.controller.specs.Inspect.{inspectMeans, firstIn}
+use Rattle.controller.specs.Outcome.{Outcome}
+use Rattle.controller.specs.Table.{lowest}
+use Rattle.controller.specs.Calls.{readRows, readMeans, writeRows, writeMeans, tickRows, tickMeans}
+use Rattle.controller.specs.Inspect.{inspectRows}
+use Rattle.controller.proofs.Refusals.{rowHolds, read-refuses, write-refuses, tick-refuses, inspect-refuses, judged-ind, not-one}
 use Rattle.controller.proofs.TickSum.{ticks-keep}
 use Rattle.history.specs.History.{Call, reset, read, write, tick, inspect, World, fresh, leaves, answers, refusalIn, after}
 use Rattle.history.proofs.Exists.{exists-reset, exists-enabled, exists-bank, exists-select, exists-register, exists-stored, exists-begun}
@@ -94,27 +96,11 @@ Of o = Sound (o .state)
 pub call-sound : (w : World) (c : Call) → Sound (w .state) → Sound (leaves w c .state)
 unfolding leaves readMeans writeMeans tickMeans
 call-sound w reset s = reset-sound
-call-sound w (read rom a) s =
-    pick-ind Of (cantExist (w .state)) (λ _. s)
-    (λ _.
-    pick-ind Of (romAllowed (length rom))
-    (λ _. pick-ind Of (ramAllowed (length (w .ram))) (λ _. pick-ind Of (onCartridge a) (λ _. s) (λ _. s)) (λ _. s))
-    (λ _. s))
+call-sound w (read rom a) s = judged-ind Of (lowest (readRows (w .state) rom (w .ram) a)) (λ k. s) s
 call-sound w (write image a v) s =
-    pick-ind Of (cantExist (w .state)) (λ _. s)
-    (λ _.
-    pick-ind Of (ramAllowed (length (w .ram)))
-    (λ _.
-    pick-ind Of (frameAllowed (length (w .store)) && frameAllowed (length image))
-    (λ _. pick-ind Of (onCartridge a) (λ _. written-sound (w .state) (w .ram) (w .store) image a v s) (λ _. s))
-    (λ _. s))
-    (λ _. s))
+    judged-ind Of (lowest (writeRows (w .state) (w .ram) (w .store) image a)) (λ k. s) (written-sound (w .state) (w .ram) (w .store) image a v s)
 call-sound w (tick n) s =
-    pick-ind Of (cantExist (w .state)) (λ _. s)
-    (λ _.
-    pick-ind Of (ramAllowed (length (w .ram)))
-    (λ _. pick-ind Of (frameAllowed (length (w .store))) (λ _. ticks-sound (w .store) (w .ram) n (w .state) s) (λ _. s))
-    (λ _. s))
+    judged-ind Of (lowest (tickRows (w .state) (w .ram) (w .store))) (λ k. s) (ticks-sound (w .store) (w .ram) n (w .state) s)
 call-sound w inspect s = s
 
 -- a list of calls
@@ -132,35 +118,14 @@ reachable ram store cs = sound ram store cs .exists
 
 -- ---- refusal 1
 
-abbrev Other : Outcome → Type 0
-Other o = o .number ≡ 1 → ⊥
-
 -- a state that can exist is not refused
 other-number : (w : World) (c : Call) → cantExist (w .state) ≡ false → refusalIn (answers w c) ≡ 1 → ⊥
-unfolding answers readMeans writeMeans tickMeans inspectMeans
+unfolding answers readRows writeRows tickRows inspectRows rowHolds
 other-number w reset e = λ z. omega arith
-other-number w (read rom a) e =
-    rw e
-    (pick-ind Other (romAllowed (length rom))
-    (λ _.
-    pick-ind Other (ramAllowed (length (w .ram))) (λ _. pick-ind Other (onCartridge a) (λ _ z. omega arith) (λ _ z. omega arith)) (λ _ z. omega arith))
-    (λ _ z. omega arith))
-other-number w (write image a v) e =
-    rw e
-    (pick-ind Other (ramAllowed (length (w .ram)))
-    (λ _.
-    pick-ind Other (frameAllowed (length (w .store)) && frameAllowed (length image))
-    (λ _. pick-ind Other (onCartridge a) (λ _ z. omega arith) (λ _ z. omega arith))
-    (λ _ z. omega arith))
-    (λ _ z. omega arith))
-other-number w (tick n) e =
-    rw e
-    (pick-ind Other (ramAllowed (length (w .ram)))
-    (λ _. pick-ind Other (frameAllowed (length (w .store))) (λ _ z. omega arith) (λ _ z. omega arith))
-    (λ _ z. omega arith))
-other-number w inspect e =
-    rw e
-    (pick-ind (λ (i : Inspection). i .number ≡ 1 → ⊥) (ltb (firstIn (w .state .registers) 0 16) 16) (λ _ z. omega arith) (λ _ z. omega arith))
+other-number w (read rom a) e = not-one (read-refuses (w .state) rom (w .ram) a) (simp e)
+other-number w (write image a v) e = not-one (write-refuses (w .state) (w .ram) (w .store) image a v) (simp e)
+other-number w (tick n) e = not-one (tick-refuses (w .state) (w .ram) (w .store) n) (simp e)
+other-number w inspect e = not-one (inspect-refuses (w .state)) (simp e)
 
 -- Never impossible: from reset, whatever was called before, no call answers refusal 1
 pub never-impossible : (ram store : List ℕ) (cs : List Call) (c : Call) → refusalIn (answers (after (fresh ram store) cs) c) ≡ 1 → ⊥

@@ -28,26 +28,12 @@ pub struct Obeyed {
     pub answer: Answer,
 }
 
-// The number of a refusal.
-fn number_of(r: Refusal) -> u32
-    ensures { λ n. ⌜ n ≡ numberOf r ⌝ }
-{
-    match r {
-        Refusal::State => 1,
-        Refusal::Rom => 2,
-        Refusal::Ram => 3,
-        Refusal::Frame => 4,
-        Refusal::Address => 5,
-        Refusal::Line => 6,
-    }
-}
-
 // A refusal prints its number alone.
 fn refused(r: Refusal) -> Answer
     ensures { λ a. ⌜ (textOf a ≡ answerText (numberOf r) 0 0) × (a .digits ≤ 8) ⌝ }
 {
     Answer {
-        number: number_of(r),
+        number: r.number(),
         digits: 0,
         value: 0,
     }

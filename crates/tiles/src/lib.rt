@@ -12,7 +12,9 @@ ghost use Rattle.tiles.specs.Bulk.{putNth, pixels};
 
 // The picture's offset in RAM bank 0, its bytes, and its pixels: 112 rows of 128.
 pub const PICTURE: usize = 0x100;
+
 pub const PICTURE_SIZE: usize = 3584;
+
 pub const PIXELS: usize = 14336;
 
 // `b` with its bit `bit` set to `v`.
@@ -74,7 +76,14 @@ fn put_some(
 }
 
 // Puts the pixels from..to of the picture, in order.
-pub fn put_pixels(ram: &mut [u8], store: &[u8], set: Setting, regs: &[u8; 54], from: usize, to: usize)
+pub fn put_pixels(
+    ram: &mut [u8],
+    store: &[u8],
+    set: Setting,
+    regs: &[u8; 54],
+    from: usize,
+    to: usize,
+)
     requires { ⌜ (from ≤ to) × (to ≤ 14336) × (8192 ≤ length (now ram)) × (length (now store) ≡ 16384) × (Asked set (now regs)) ⌝ }
     ensures { λ _. ⌜ now (ram .exit) ≡ pixels (now (store .entry)) (now (regs .entry)) from to (now (ram .entry)) ⌝ }
 {
@@ -136,4 +145,3 @@ fn put_row(ram: &mut [u8], store: &[u8], set: Setting, regs: &[u8; 54], j: usize
     ram[o] = row.low;
     ram[p] = row.high;
 }
-

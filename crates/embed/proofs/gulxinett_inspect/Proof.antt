@@ -3,7 +3,7 @@ use mathlib.Core.Path.{_≡_, sym, _∙_}
 use mathlib.Core.Bool.{true}
 use Prim.Native.Nat.{_+_, _*_}
 use borrow.Author.Needs.{needs}
-use Rattle.controller.proofs.Judge.{left-out, let-in}
+use Rattle.laws.proofs.Bools.{left-out, let-in}
 use Rattle.embed.specs.Layout.{isRecord}
 use Rattle.embed.specs.Packed.{packed}
 use Rattle.embed.proofs.Cases.{inspect-unread, inspect-found}

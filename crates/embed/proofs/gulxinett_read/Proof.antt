@@ -4,7 +4,7 @@ use mathlib.Core.Bool.{true}
 use mathlib.Core.List.{[]}
 use borrow.Author.Needs.{needs}
 use Rattle.tiles.specs.Tiles.{Bytes}
-use Rattle.controller.proofs.Judge.{left-out, let-in}
+use Rattle.laws.proofs.Bools.{left-out, let-in}
 use Rattle.embed.specs.Layout.{isRecord}
 use Rattle.embed.specs.Packed.{packed}
 use Rattle.embed.specs.Exports.{called}

@@ -3,7 +3,7 @@ use mathlib.Core.Path.{_≡_, sym, ap, _∙_}
 use mathlib.Core.Bool.{true}
 use borrow.Author.Needs.{needs}
 use Rattle.tiles.specs.Tiles.{Bytes}
-use Rattle.controller.proofs.Judge.{left-out, let-in}
+use Rattle.laws.proofs.Bools.{left-out, let-in}
 use Rattle.embed.specs.Layout.{isRecord}
 use Rattle.embed.specs.Exports.{called}
 use Rattle.embed.proofs.Inverse.{record-parts}

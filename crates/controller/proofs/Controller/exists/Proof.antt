@@ -1,5 +1,5 @@
 -- `controller::Controller::exists` meets its contract: its tests are the definition's. Assumes nothing.
-use Rattle.controller.proofs.Judge.{held-only, none-only}
+use Rattle.controller.proofs.Records.{held-only, none-only}
 use borrow.Author.Tests.{eq-eqb, ne-eqb, lt-ltb, le-ltb, lt-leb, le-leb}
 use Rattle.controller.specs.State.{cantExist}
 use borrow.Author.Needs.{needs}

@@ -1,6 +1,6 @@
 -- `controller::Controller::holds_capture` meets its contract. Assumes nothing.
 use lib.ListN.{getD}
-use Rattle.controller.proofs.Judge.{odd-not, odd-yes, not-leb}
+use Rattle.controller.proofs.Records.{odd-not, odd-yes, not-leb}
 use native.Mathlib.Omega.{arith}
 use borrow.Author.Tests.{eq-eqb, ne-eqb, lt-ltb, le-ltb}
 use Rattle.controller.specs.State.{wrongCapture}

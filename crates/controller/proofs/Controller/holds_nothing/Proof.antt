@@ -1,5 +1,5 @@
 -- `controller::Controller::holds_nothing` meets its contract. Assumes nothing.
-use Rattle.controller.proofs.Judge.{not-not}
+use mathlib.Core.Bool.{Bool·not-not}
 use borrow.Author.Tests.{eq-eqb, ne-eqb, lt-ltb, le-ltb, lt-leb, le-leb}
 use Rattle.controller.specs.State.{leftOver}
 use borrow.Author.Needs.{needs}
@@ -17,7 +17,7 @@ returns-2 : tie.Need-returns-2
 unfolding leftOver
 returns-2 c =
     let s = c .before .before .before .before in
-    simp (s .pre, eq-eqb _ _ (c .before .before .before .if1 .left), c .all-zero .ensures, not-not)
+    simp (s .pre, eq-eqb _ _ (c .before .before .before .if1 .left), c .all-zero .ensures, Bool·not-not)
 
 pub holds-nothing-spec : {M : Type 1} → statement M
 holds-nothing-spec = tie.close (tie.spec returns all-zero-requires returns-2)

@@ -1,7 +1,7 @@
 -- `controller::state::all_zero` meets its contract: a sum is 0 exactly where each number is. Assumes nothing.
 use mathlib.Core.Path.{ap, _∙_}
 use lib.Dec.{eqb}
-use Rattle.controller.proofs.Judge.{sum-zero}
+use Rattle.controller.proofs.Records.{sum-zero}
 use borrow.Author.Needs.{needs}
 use Rattle.controller.proofs.state.all_zero.Statement.{statement}
 use Rattle.controller.proofs.state.all_zero.Tie as tie

@@ -9,4 +9,4 @@ use Rattle.script.proofs.session.refused.Tie as tie
 pub refused-spec : {M : Type 1} → statement M
 refused-spec = tie.close (tie.spec
     (λ c κs. search needs)
-    (λ c. (rw (c .number-of .ensures) (sym (refused-text (c .before .args .r) 0 0)), omega arith)))
+    (λ c. (rw (c .number .ensures) (sym (refused-text (c .before .args .r) 0 0)), omega arith)))

@@ -1,6 +1,6 @@
 -- Which records can exist: what each test of the code comes to in the definition. Assumes nothing.
 use mathlib.Core.Path.{_≡_, refl, sym, ap, _∙_}
-use mathlib.Core.Bool.{Bool, true, false, not, _&&_, _||_}
+use mathlib.Core.Bool.{Bool, true, false, not, _&&_, _||_, and-false, and-true, or-false}
 use mathlib.Core.List.{List}
 use Prim.Native.Nat.{ℕ, zero, suc, _+_, _%_, _<_, _≤_}
 use native.Mathlib.Nat.{add-zero}
@@ -12,14 +12,6 @@ use Rattle.laws.specs.Sums.{sumOf}
 use Rattle.laws.proofs.Order.{split}
 use Rattle.controller.specs.State.{zeroTo, started, leftOver, wrongCapture}
 use Rattle.controller.specs.declared.Controller.{Controller}
-
-and-false : (b : Bool) → (b && false) ≡ false
-and-false true = refl
-and-false false = refl
-
-and-true : (b : Bool) → (b && true) ≡ b
-and-true true = refl
-and-true false = refl
 
 one-more : (n : ℕ) (b : Bool) (x : ℕ) → eqb n 0 ≡ b → eqb (n + x) 0 ≡ (b && eqb x 0)
 one-more n b zero e = rw add-zero (e ∙ sym (and-true b))
@@ -47,14 +39,6 @@ odd-yes n h = eq-eqb (n % 2) 1 (odd (n % 2) (omega arith) h)
     odd (suc zero) l h = refl
     odd (suc (suc r)) l h = absurd (omega arith)
 
-pub not-not : (b : Bool) → not (not b) ≡ b
-not-not true = refl
-not-not false = refl
-
-or-false : (b : Bool) → (b || false) ≡ b
-or-false true = refl
-or-false false = refl
-
 -- with a capture held nothing is left over, and with none no capture is wrong: what is left of the last tests
 pub held-only : (c : Controller) → c .held ≡ true → ((started (c .registers) && not (c .held)) || (leftOver c || wrongCapture c)) ≡ wrongCapture c
 unfolding leftOver wrongCapture
@@ -63,17 +47,3 @@ held-only c h = simp (h, and-false)
 pub none-only : (c : Controller) → c .held ≡ false → (leftOver c || wrongCapture c) ≡ leftOver c
 unfolding leftOver wrongCapture
 none-only c h = simp (h, or-false)
-
--- what a test `if !f(..)` tells of what f's result equals
-pub left-out : {r b : Bool} → r ≡ b → not r ≡ true → b ≡ false
-left-out {r} {b} e t = sym e ∙ not-true r t
-
-pub let-in : {r b : Bool} → r ≡ b → not r ≡ false → b ≡ true
-let-in {r} {b} e t = sym e ∙ not-false r t
-
--- the same where f's result is the opposite
-pub found-out : {r b : Bool} → r ≡ not b → not r ≡ true → b ≡ true
-found-out {r} {b} e t = sym (not-not b) ∙ ap not (left-out e t)
-
-pub found-in : {r b : Bool} → r ≡ not b → not r ≡ false → b ≡ false
-found-in {r} {b} e t = sym (not-not b) ∙ ap not (let-in e t)

@@ -1,8 +1,8 @@
--- `controller::bus::on_cartridge` meets its contract. Assumes nothing.
+-- `controller::judge::on_cartridge` meets its contract. Assumes nothing.
 use Rattle.controller.specs.Bus.{onCartridge}
 use borrow.Author.Tests.{eq-eqb, ne-eqb, lt-ltb, le-ltb, lt-leb, le-leb}
-use Rattle.controller.proofs.bus.on_cartridge.Statement.{statement}
-use Rattle.controller.proofs.bus.on_cartridge.Tie as tie
+use Rattle.controller.proofs.judge.on_cartridge.Statement.{statement}
+use Rattle.controller.proofs.judge.on_cartridge.Tie as tie
 
 returns : tie.Need-returns
 unfolding onCartridge
