@@ -1,9 +1,8 @@
 //! The proved archive beside the second program, in the same run.
 //!
-//! `bench [--quick] [--emulated] [PROVED SECOND]`: PROVED and SECOND are the two script programs,
-//! each with its arguments in one word of the shell, or come from the variables BUS and SECOND. The
-//! proved controller is called through its bindings, which hand the state over as bytes; "second"
-//! does the same, "direct" is called as it is. Under an emulator no times are shown.
+//! `bench [--quick] PROVED SECOND`: PROVED and SECOND are the two script programs, each with its
+//! arguments in one word of the shell. The proved controller is called through its bindings, which
+//! hand the state over as bytes; "second" does the same, "direct" is called as it is.
 
 #![forbid(unsafe_code)]
 
@@ -15,7 +14,7 @@ use machines::{Archive, Bytes, Direct, Machine};
 use std::hint::black_box;
 use std::io;
 use std::process::ExitCode;
-use timing::{sample, Effort, Spread, Table};
+use timing::{sample, Effort, Spread};
 
 /// What is done to a machine so many times.
 type Action = fn(&mut dyn Machine, u32);
@@ -24,32 +23,19 @@ const TRIGGER: u16 = 0xA000;
 /// Captures a second the real cartridge makes at most: 1,048,576 cycles by 32,446.
 const REAL: f64 = 1_048_576.0 / 32_446.0;
 
-/// What the table is under, where an emulator runs all of it.
-const EMULATED: &str = "\
-EMULATED: both sides run in the same emulator. Times there say nothing about the code, so none are
-shown; a ratio is one of the costs of the emulated instructions, and no ratio of speeds.";
-
 fn main() -> ExitCode {
     let (flags, words): (Vec<String>, Vec<String>) = std::env::args()
         .skip(1)
         .partition(|word| word.starts_with("--"));
-    let mut bench = Bench {
-        effort: Effort::FULL,
-        table: Table { emulated: false },
-    };
-    for flag in flags {
-        match flag.as_str() {
-            "--quick" => bench.effort = Effort::QUICK,
-            "--emulated" => bench.table.emulated = true,
-            _ => return usage(),
-        }
-    }
-    let programs = match &words[..] {
-        [] => std::env::var("BUS").ok().zip(std::env::var("SECOND").ok()),
-        [proved, second] => Some((proved.clone(), second.clone())),
+    let effort = match &flags[..] {
+        [] => Effort::FULL,
+        [flag] if flag == "--quick" => Effort::QUICK,
         _ => return usage(),
     };
-    match bench.run(programs) {
+    let [proved, second] = &words[..] else {
+        return usage();
+    };
+    match (Bench { effort }).run(proved, second) {
         Ok(()) => ExitCode::SUCCESS,
         Err(error) => {
             eprintln!("bench: the script: {error}");
@@ -59,42 +45,28 @@ fn main() -> ExitCode {
 }
 
 fn usage() -> ExitCode {
-    eprintln!("usage: bench [--quick] [--emulated] [PROVED SECOND]");
+    eprintln!("usage: bench [--quick] PROVED SECOND");
     ExitCode::from(2)
 }
 
-/// How much is measured, and where it is shown.
+/// How much is measured.
 struct Bench {
     effort: Effort,
-    table: Table,
 }
 
 impl Bench {
-    /// Everything, with the two script programs if they are named.
-    fn run(&self, programs: Option<(String, String)>) -> io::Result<()> {
+    /// Everything, with the two script programs.
+    fn run(&self, proved: &str, second: &str) -> io::Result<()> {
         let rounds = self.effort.rounds;
-        if self.table.emulated {
-            println!("{EMULATED}");
-            println!("ratios: medians of {rounds} rounds with their quartiles");
-        } else {
-            println!("medians of {rounds} rounds, ratios with their quartiles");
-        }
-        self.table.head();
+        println!("medians of {rounds} rounds, ratios with their quartiles");
+        timing::head();
         let captures = self.measure_captures();
         self.measure_small();
-        let scripts = match programs {
-            Some((proved, second)) => script::compare(&proved, &second, self.effort, self.table),
-            None => {
-                println!("script: not run, the two programs are not named");
-                Ok(())
-            }
-        };
-        if !self.table.emulated {
-            println!();
-            captures.iter().for_each(|line| println!("{line}"));
-            println!("the real cartridge makes {REAL:.0} captures a second at most");
-        }
-        scripts
+        script::compare(proved, second, self.effort)?;
+        println!();
+        captures.iter().for_each(|line| println!("{line}"));
+        println!("the real cartridge makes {REAL:.0} captures a second at most");
+        Ok(())
     }
 
     /// Whole captures in four modes; returns what each makes in a second.
@@ -154,8 +126,7 @@ impl Bench {
         let by_direct = Spread::of_ratios(&times[0], &times[2]);
         let medians = times.map(|times| Spread::of(times).median);
         let [proved, second, direct] = medians;
-        self.table
-            .row(what, proved, second, by, Some((direct, by_direct)));
+        timing::row(what, proved, second, by, Some((direct, by_direct)));
         medians
     }
 }

@@ -1,6 +1,6 @@
 //! A long script through both programs.
 
-use crate::timing::{Effort, Spread, Table};
+use crate::timing::{self, Effort, Spread};
 use std::fs::File;
 use std::io::{self, Write};
 use std::path::{Path, PathBuf};
@@ -18,7 +18,7 @@ impl Drop for Temporary {
 }
 
 /// Times both programs on the same script, after seeing that they print the same.
-pub fn compare(proved: &str, second: &str, effort: Effort, table: Table) -> io::Result<()> {
+pub fn compare(proved: &str, second: &str, effort: Effort) -> io::Result<()> {
     let path = std::env::temp_dir().join(format!("script-{}.txt", std::process::id()));
     let script = Temporary(path);
     std::fs::write(&script.0, lines(effort.lines))?;
@@ -31,7 +31,7 @@ pub fn compare(proved: &str, second: &str, effort: Effort, table: Table) -> io::
         second_times.push(run(second, &script.0)?);
     }
     let by = Spread::of_ratios(&proved_times, &second_times);
-    table.row(
+    timing::row(
         &format!("script of {} lines", effort.lines),
         Spread::of(proved_times).median,
         Spread::of(second_times).median,

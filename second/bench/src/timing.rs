@@ -89,50 +89,32 @@ fn ratio(spread: Spread) -> String {
     )
 }
 
-/// The table; where all runs in an emulator it has no times, since they say nothing.
-#[derive(Clone, Copy)]
-pub struct Table {
-    pub emulated: bool,
+/// The table's head.
+pub fn head() {
+    line([
+        "",
+        "proved",
+        "second",
+        "proved / second",
+        "second, direct",
+        "proved / direct",
+    ]);
 }
 
-impl Table {
-    pub fn head(self) {
-        self.line([
-            "",
-            "proved",
-            "second",
-            "proved / second",
-            "second, direct",
-            "proved / direct",
-        ]);
-    }
+/// One line: the medians of both, their ratio, and the same of direct calls if there are any.
+pub fn row(what: &str, proved: f64, second: f64, by: Spread, direct: Option<(f64, Spread)>) {
+    let (direct, by_direct) =
+        direct.map_or_else(Default::default, |(direct, by)| (time(direct), ratio(by)));
+    line([
+        what,
+        &time(proved),
+        &time(second),
+        &ratio(by),
+        &direct,
+        &by_direct,
+    ]);
+}
 
-    /// One line: the medians of both, their ratio, and the same of direct calls if there are any.
-    pub fn row(
-        self,
-        what: &str,
-        proved: f64,
-        second: f64,
-        by: Spread,
-        direct: Option<(f64, Spread)>,
-    ) {
-        let (direct, by_direct) =
-            direct.map_or_else(Default::default, |(direct, by)| (time(direct), ratio(by)));
-        self.line([
-            what,
-            &time(proved),
-            &time(second),
-            &ratio(by),
-            &direct,
-            &by_direct,
-        ]);
-    }
-
-    fn line(self, [what, proved, second, by, direct, by_direct]: [&str; 6]) {
-        if self.emulated {
-            println!("{what:<30} {by:>24} {by_direct:>24}");
-        } else {
-            println!("{what:<30} {proved:>10} {second:>10} {by:>24} {direct:>14} {by_direct:>24}");
-        }
-    }
+fn line([what, proved, second, by, direct, by_direct]: [&str; 6]) {
+    println!("{what:<30} {proved:>10} {second:>10} {by:>24} {direct:>14} {by_direct:>24}");
 }
