@@ -42,6 +42,11 @@ extern "C" {
 #define GULXINETT_FRAME_LEN 16384
 #define GULXINETT_PICTURE_LEN 3584
 
+/* Bytes of stack below the caller's frame that suffice for any call here, compiled for x86-64, for
+ * aarch64 or for the browser. No function here recurs, and what is large is lent; tests/stack works
+ * the need of each function out from the compiled frames. */
+#define GULXINETT_STACK 8192
+
 /* Where the picture lies in RAM bank 0. */
 #define GULXINETT_PICTURE_OFFSET 0x100
 

@@ -1,0 +1,80 @@
+/* Makes calls on a stack that was filled with one byte, and says how much of it they used.
+ * usage: stack BYTES; fails if they used more than BYTES, or so little that nothing was measured. */
+#define _GNU_SOURCE
+#include <gulxinett.h>
+#include <stdio.h>
+#include <stdlib.h>
+#include <string.h>
+#include <ucontext.h>
+
+#define ROOM 262144
+#define UNTOUCHED 0xA5
+
+static uint8_t state[GULXINETT_STATE_LEN], rom[GULXINETT_ROM_BANK_LEN], ram[GULXINETT_RAM_BANK_LEN];
+static uint8_t store[GULXINETT_FRAME_LEN], image[GULXINETT_FRAME_LEN], picture[GULXINETT_PICTURE_LEN];
+static uint8_t room[ROOM];
+static ucontext_t here, there;
+
+static void write_byte(uint16_t address, uint8_t value)
+{
+    gulxinett_write(state, sizeof state, ram, sizeof ram, store, sizeof store, image, sizeof image, address, value);
+}
+
+static void tick(uint32_t cycles)
+{
+    gulxinett_tick(state, sizeof state, ram, sizeof ram, store, sizeof store, cycles);
+}
+
+static void nothing(void)
+{
+}
+
+/* A capture in each mode, some of it pixel by pixel, and every other call. */
+static void everything(void)
+{
+    gulxinett_reset(state, sizeof state);
+    for (unsigned mode = 0; mode < 16; mode++) {
+        write_byte(0x4000, 0x10);
+        write_byte(0xA001, (uint8_t)(mode >> 1 << 5));
+        write_byte(0xA004, (uint8_t)((mode & 1) << 7 | 0x10));
+        write_byte(0xA000, 3);
+        for (unsigned few = 0; few < 100; few++)
+            tick(401);
+        tick(UINT32_MAX);
+        gulxinett_inspect(state, sizeof state);
+        gulxinett_picture(image, sizeof image, state + 8, picture);
+        write_byte(0x4000, 0);
+        gulxinett_read(state, sizeof state, rom, sizeof rom, ram, sizeof ram, 0xA100);
+        gulxinett_read(state, sizeof state, rom, sizeof rom, ram, sizeof ram, 0x0000);
+    }
+}
+
+/* Runs a function on the room as its stack; how many bytes of it no longer hold what they did. */
+static size_t used_by(void (*run)(void))
+{
+    size_t place = 0;
+    memset(room, UNTOUCHED, sizeof room);
+    getcontext(&there);
+    there.uc_stack.ss_sp = room;
+    there.uc_stack.ss_size = sizeof room;
+    there.uc_link = &here;
+    makecontext(&there, run, 0);
+    swapcontext(&here, &there);
+    while (place < sizeof room && room[place] == UNTOUCHED)
+        place++;
+    return sizeof room - place;
+}
+
+int main(int count, char **words)
+{
+    size_t allowed = count == 2 ? strtoul(words[1], NULL, 10) : 0;
+    size_t before = used_by(nothing), with = used_by(everything);
+    /* what the callers above put there themselves */
+    size_t own = 512;
+    printf("stack: calls in every mode used %zu bytes of a stack; %zu were worked out\n", with - before, allowed);
+    if (with <= before || with - before > allowed + own) {
+        printf("stack: FAILED: that does not fit\n");
+        return 1;
+    }
+    return 0;
+}
