@@ -76,6 +76,6 @@ const made = ["0", "2", "E", "F"].map((name) => {
   return `mode ${name} ${(1000 / timed()).toFixed(0)}`;
 });
 console.log(`browser module under node, captures a second: ${made.join(", ")}`);
-console.log(`browser module: ${bytes.length} bytes, no more than ${end} bytes of memory for a capture: ` +
+console.log(`browser module: ${bytes.length} bytes; a cartridge takes ${end} bytes of memory: ` +
   `stack and constants ${call.__heap_base.value}, ` +
   Object.entries(SIZES).map(([name, size]) => `${name} ${size}`).join(", "));
