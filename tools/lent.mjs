@@ -1,0 +1,57 @@
+// The browser module with a cartridge's parts lent to it, for tests and the bench.
+import { readFileSync } from "node:fs";
+
+const SIZES = { state: 116, ram: 8192, store: 16384, image: 16384, registers: 54, picture: 3584 };
+const PAGE = 65536;
+const TRIGGER = 0xa000;
+
+/** The value of an answer; nothing here is to be refused. */
+function value(answer) {
+  if (answer >> 32n) throw new Error(`refused by ${answer >> 32n}`);
+  return Number(answer);
+}
+
+/** Loads a module and places what it is lent behind its own memory, one part after the other. */
+export function lend(path) {
+  const bytes = readFileSync(path);
+  const call = new WebAssembly.Instance(new WebAssembly.Module(bytes)).exports;
+  const own = call.__heap_base.value;
+  const at = {};
+  let end = own;
+  for (const [name, size] of Object.entries(SIZES)) {
+    at[name] = end;
+    end += size;
+  }
+  call.memory.grow(Math.max(0, Math.ceil((end - call.memory.buffer.byteLength) / PAGE)));
+  const view = (name) => new Uint8Array(call.memory.buffer, at[name], SIZES[name]);
+  view("image").forEach((_, place, image) => {
+    image[place] = (place % 128) * 3 + Math.floor(place / 128) * 5 + ((place * place) % 61);
+  });
+
+  const lent = (...names) => names.flatMap((name) => [at[name], BigInt(SIZES[name])]);
+  const cartridge = {
+    size: bytes.length,
+    memory: call.memory,
+    own,
+    sizes: SIZES,
+    end,
+    write: (address, byte) =>
+      value(call.gulxinett_write(...lent("state", "ram", "store", "image"), address, byte)),
+    tick: (cycles) => value(call.gulxinett_tick(...lent("state", "ram", "store"), cycles)),
+    inspect: () => value(call.gulxinett_inspect(...lent("state"))),
+    picture: () => value(call.gulxinett_picture(...lent("image"), at.registers, at.picture)),
+    /** Reset, then the registers of a mode, at 75 per cent and exposure 0100h, with a rising matrix. */
+    prepare(mode) {
+      value(call.gulxinett_reset(...lent("state")));
+      cartridge.write(0x4000, 0x10);
+      cartridge.write(TRIGGER + 1, (mode >> 1) << 5);
+      cartridge.write(TRIGGER + 2, 0x01);
+      cartridge.write(TRIGGER + 4, ((mode << 7) & 0xff) | 0x10);
+      for (let place = 0; place < 48; place++) {
+        cartridge.write(TRIGGER + 6 + place, 0x60 + 2 * Math.floor(place / 3) + 0x18 * (place % 3));
+      }
+    },
+    start: () => cartridge.write(TRIGGER, 3),
+  };
+  return cartridge;
+}
