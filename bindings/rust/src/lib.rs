@@ -8,12 +8,15 @@
 //! - image and frame store: 16,384 bytes each, else [`Refusal::Frame`].
 //!
 //! A refused call changes neither the state nor a byte lent. The lowest refusal is given.
+//! [`Cartridge`] owns all of these and has the calls as methods.
 //! [`bytes`] has the same calls over the record's bytes, as the C functions take it.
 
 pub mod bytes;
+mod cartridge;
 mod ffi;
 mod state;
 
+pub use cartridge::{Cartridge, Save};
 pub use state::State;
 
 /// Bytes of the state record.

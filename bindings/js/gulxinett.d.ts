@@ -1,0 +1,105 @@
+/** Bytes that are lent: they are copied, and never changed or kept. */
+export type Bytes = Uint8Array | Uint8ClampedArray | ArrayBuffer;
+
+/** Bytes of the state record. */
+export const STATE_BYTES: 116;
+/** Camera registers. */
+export const REGISTERS: 54;
+/** Bytes in one ROM bank. */
+export const ROM_BANK: 16384;
+/** Bytes in one RAM bank. */
+export const RAM_BANK: 8192;
+/** Bytes in an image and in the frame store: 128 rows of 128. */
+export const FRAME_BYTES: 16384;
+/** Bytes of a picture: two bits for each of 128 by 112 pixels. */
+export const PICTURE_BYTES: 3584;
+/** Where the picture lies in RAM bank 0. */
+export const PICTURE_OFFSET: 256;
+
+/**
+ * A call that was refused; it changed nothing.
+ *
+ * 1 the state record can't exist, 2 the ROM length is not allowed, 3 the RAM length is not allowed, 4 the image
+ * or the frame store is not 16,384 bytes, 5 the address is outside 0000-7FFF and A000-BFFF.
+ */
+export class Refusal extends Error {
+  constructor(number: number);
+  readonly name: "Refusal";
+  readonly number: number;
+}
+
+/** All that a cartridge needs to go on elsewhere; the ROM is brought by whoever goes on. */
+export interface Save {
+  /** The state record, 116 bytes. */
+  state: Uint8Array;
+  /** The RAM, as long as it was given. */
+  ram: Uint8Array;
+  /** The frame store, 16,384 bytes. */
+  store: Uint8Array;
+}
+
+/** An element of the 4 by 4 matrix, row and column from 0 to 3. */
+export interface Element {
+  row: number;
+  column: number;
+}
+
+/** What a new cartridge is given, all of it copied. */
+export interface Given {
+  /** 16,384 bytes times 1, 2, 4 .. 64; without it one bank of FF. */
+  rom?: Bytes;
+  /** 8,192 bytes times 1, 2, 4, 8 or 16; without it one bank of FF. */
+  ram?: Bytes;
+  /** 116 bytes; without it the record after reset. */
+  state?: Bytes;
+  /** 16,384 bytes; without it all 00. */
+  store?: Bytes;
+}
+
+/**
+ * A cartridge: state, ROM, RAM, frame store and the image lent, in the module's memory.
+ *
+ * Every method throws an `Error` once it is closed, a `TypeError` or `RangeError` for what is no number or
+ * bytes of its kind, and a `Refusal` for what the controller refuses; then nothing has changed.
+ */
+export interface Cartridge {
+  /** Resets the state; RAM, frame store and image stay. */
+  reset(): void;
+  /** The byte at an address. */
+  read(address: number): number;
+  /** Writes a byte to an address; a start copies the image lent to the frame store. */
+  write(address: number, value: number): void;
+  /** Lets cycles pass; how many of them fell while a capture was running. */
+  tick(cycles: number): number;
+  /** The first element of the current matrix whose three values don't rise or stay level; null if there is none. */
+  inspect(): Element | null;
+  /** Lends an image of 16,384 bytes to the writes that follow; until then it is all 00. */
+  lend(image: Bytes): void;
+  /** The picture afresh: by itself that of the image lent, under the registers as last written. */
+  picture(frame?: Bytes, registers?: Bytes): Uint8Array;
+  /** The picture area as it stands in RAM, 3,584 bytes. */
+  plate(): Uint8Array;
+  /** Copies of state, RAM and frame store. */
+  save(): Save;
+  /** Gives the memory back to the next cartridge; closing twice is no error. */
+  close(): void;
+}
+
+export interface CartridgeClass {
+  new (given?: Given): Cartridge;
+  /** A cartridge that goes on from a save, made here or in another language. */
+  restore(save: { state: Bytes; ram: Bytes; store: Bytes }, given?: { rom?: Bytes }): Cartridge;
+}
+
+/** A loaded module. Its cartridges share one memory, which grows as they need it. */
+export interface Gulxinett {
+  Cartridge: CartridgeClass;
+  /** The whole picture of a frame under 54 registers taken, as RAM bank 0 gets it from offset 100h on. */
+  picture(frame: Bytes, registers: Bytes): Uint8Array;
+}
+
+/**
+ * Loads the module: from its bytes, from a compiled module, or from a URL (in node also a path). Without a
+ * word it is `gulxinett.wasm` beside this file.
+ */
+export function load(source?: string | URL | Bytes | WebAssembly.Module): Promise<Gulxinett>;

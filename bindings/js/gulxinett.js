@@ -1,0 +1,250 @@
+// The Game Boy Camera cartridge controller, in a browser and in node: the proved module, and a class that
+// owns a cartridge's memory in it.
+
+import { Memory } from "./memory.js";
+
+/** Bytes of the state record. */
+export const STATE_BYTES = 116;
+/** Camera registers. */
+export const REGISTERS = 54;
+/** Bytes in one ROM bank. */
+export const ROM_BANK = 16_384;
+/** Bytes in one RAM bank. */
+export const RAM_BANK = 8_192;
+/** Bytes in an image and in the frame store: 128 rows of 128. */
+export const FRAME_BYTES = 16_384;
+/** Bytes of a picture: two bits for each of 128 by 112 pixels. */
+export const PICTURE_BYTES = 3_584;
+/** Where the picture lies in RAM bank 0. */
+export const PICTURE_OFFSET = 0x100;
+
+/** Where the registers stand in the state record. */
+const REGISTERS_OFFSET = 8;
+
+/** What each refusal number says. */
+const SENTENCES = {
+  1: "the state record can't exist",
+  2: "the ROM length is not allowed",
+  3: "the RAM length is not allowed",
+  4: "the image or the frame store is not 16,384 bytes",
+  5: "the address is outside 0000-7FFF and A000-BFFF",
+};
+
+/** A call that was refused, by its number; it changed nothing. */
+export class Refusal extends Error {
+  constructor(number) {
+    super(SENTENCES[number] ?? `refusal ${number}`);
+    this.name = "Refusal";
+    this.number = number;
+  }
+}
+
+/** Compiles the module, from bytes or from where it lies, and gives what is called on it. */
+export async function load(source = new URL("gulxinett.wasm", import.meta.url)) {
+  const module = source instanceof WebAssembly.Module ? source : await WebAssembly.compile(await fetched(source));
+  const { exports } = await WebAssembly.instantiate(module);
+  return bound(exports);
+}
+
+/** The module's bytes, as given or from a URL; in node also from a path. */
+async function fetched(source) {
+  if (typeof source !== "string" && !(source instanceof URL)) return bytesOf("the module", source);
+  const inNode = globalThis.process?.versions?.node !== undefined;
+  if (inNode && !/^(https?|data|blob):/i.test(source)) {
+    const { readFile } = await import("node:fs/promises");
+    return readFile(/^file:/i.test(source) ? new URL(source) : source);
+  }
+  const answer = await fetch(source);
+  if (!answer.ok) throw new Error(`the module can't be had from ${source}: ${answer.status} ${answer.statusText}`);
+  return answer.arrayBuffer();
+}
+
+/** What is called on a module: one `Cartridge` class and `picture`, over its memory. */
+function bound(exports) {
+  const memory = new Memory(exports.memory, exports.__heap_base.value);
+
+  const resetRecord = withCopies({ state: new Uint8Array(STATE_BYTES) }, ({ state }) => {
+    valueOf(exports.gulxinett_reset(...lent(state)));
+    return state.bytes.slice();
+  });
+
+  /** Lends copies of the named bytes to some work, and takes them back. */
+  function withCopies(named, work) {
+    const kept = memory.keep(named);
+    try {
+      return work(kept);
+    } finally {
+      memory.release(kept);
+    }
+  }
+
+  /** The whole picture of a frame under the registers taken. */
+  function picture(frame, registers) {
+    const named = {
+      frame: bytesOf("the frame", frame),
+      registers: exactly(REGISTERS, "the registers", registers),
+      plate: new Uint8Array(PICTURE_BYTES),
+    };
+    return withCopies(named, ({ frame, registers, plate }) => {
+      valueOf(exports.gulxinett_picture(...lent(frame), registers.address, plate.address));
+      return plate.bytes.slice();
+    });
+  }
+
+  class Cartridge {
+    /** The pieces of memory that are this cartridge's; none once it is closed. */
+    #kept;
+    // What each call is lent.
+    #reading;
+    #writing;
+    #ticking;
+    #inspecting;
+
+    constructor({
+      rom = filled(ROM_BANK, 0xff),
+      ram = filled(RAM_BANK, 0xff),
+      state = resetRecord,
+      store = filled(FRAME_BYTES, 0),
+    } = {}) {
+      this.#kept = memory.keep({
+        state: bytesOf("the state", state),
+        rom: bytesOf("the ROM", rom),
+        ram: bytesOf("the RAM", ram),
+        store: bytesOf("the frame store", store),
+        image: filled(FRAME_BYTES, 0),
+      });
+      const kept = this.#kept;
+      this.#reading = lent(kept.state, kept.rom, kept.ram);
+      this.#writing = lent(kept.state, kept.ram, kept.store, kept.image);
+      this.#ticking = lent(kept.state, kept.ram, kept.store);
+      this.#inspecting = lent(kept.state);
+      this.#judge();
+    }
+
+    /** A cartridge that goes on from a save. */
+    static restore(save, { rom } = {}) {
+      const { state, ram, store } = save ?? {};
+      for (const [part, bytes] of Object.entries({ state, ram, store })) bytesOf(`the save's ${part}`, bytes);
+      return new Cartridge({ rom, state, ram, store });
+    }
+
+    /** Lets the module judge what was given: a read looks at state, ROM and RAM, no cycles at the store too. */
+    #judge() {
+      try {
+        this.read(0);
+        this.tick(0);
+      } catch (refusal) {
+        this.close();
+        throw refusal;
+      }
+    }
+
+    #open() {
+      if (!this.#kept) throw new Error("the cartridge is closed");
+      return this.#kept;
+    }
+
+    /** Resets the state; RAM, frame store and image stay. */
+    reset() {
+      this.#open();
+      valueOf(exports.gulxinett_reset(...this.#inspecting));
+    }
+
+    /** The byte at an address. */
+    read(address) {
+      this.#open();
+      return valueOf(exports.gulxinett_read(...this.#reading, upTo(0xffff, "the address", address)));
+    }
+
+    /** Writes a byte to an address; a start copies the image lent to the frame store. */
+    write(address, value) {
+      this.#open();
+      const words = [upTo(0xffff, "the address", address), upTo(0xff, "the value", value)];
+      valueOf(exports.gulxinett_write(...this.#writing, ...words));
+    }
+
+    /** Lets cycles pass; how many of them fell while a capture was running. */
+    tick(cycles) {
+      this.#open();
+      return valueOf(exports.gulxinett_tick(...this.#ticking, upTo(0xffff_ffff, "the cycles", cycles)));
+    }
+
+    /** The first element of the matrix whose values don't rise or stay level; null if there is none. */
+    inspect() {
+      this.#open();
+      const value = valueOf(exports.gulxinett_inspect(...this.#inspecting));
+      return value === 0 ? null : { row: (value >> 4) & 15, column: value & 15 };
+    }
+
+    /** Lends an image to the writes that follow. */
+    lend(image) {
+      const { image: kept } = this.#open();
+      const bytes = bytesOf("the image", image);
+      if (bytes.length !== FRAME_BYTES) throw new Refusal(4);
+      kept.bytes.set(bytes);
+    }
+
+    /** The picture afresh: by itself that of the image lent, under the registers as last written. */
+    picture(frame = this.#open().image.bytes.slice(), registers = this.#registers()) {
+      this.#open();
+      return picture(frame, registers);
+    }
+
+    #registers() {
+      return this.#open().state.bytes.slice(REGISTERS_OFFSET, REGISTERS_OFFSET + REGISTERS);
+    }
+
+    /** The picture area as it stands in RAM. */
+    plate() {
+      return this.#open().ram.bytes.slice(PICTURE_OFFSET, PICTURE_OFFSET + PICTURE_BYTES);
+    }
+
+    /** Copies of all that another cartridge needs to go on from here. */
+    save() {
+      const { state, ram, store } = this.#open();
+      return { state: state.bytes.slice(), ram: ram.bytes.slice(), store: store.bytes.slice() };
+    }
+
+    /** Gives the memory back; every later call but this one is an error. */
+    close() {
+      if (this.#kept) memory.release(this.#kept);
+      this.#kept = undefined;
+    }
+  }
+
+  return { Cartridge, picture };
+}
+
+/** Pieces as the functions take them: address and length of each. */
+const lent = (...pieces) => pieces.flatMap(({ address, length }) => [address, BigInt(length)]);
+
+const filled = (length, value) => new Uint8Array(length).fill(value);
+
+/** The value of an answer, which is refusal number * 2^32 + value; a refusal is thrown. */
+function valueOf(answer) {
+  const number = Number(BigInt.asUintN(32, answer >> 32n));
+  if (number !== 0) throw new Refusal(number);
+  return Number(BigInt.asUintN(32, answer));
+}
+
+/** The bytes of an array of bytes or a buffer, of this page or another. */
+function bytesOf(what, value) {
+  const kind = Object.prototype.toString.call(value).slice(8, -1);
+  if (kind === "Uint8Array" || kind === "Uint8ClampedArray") return value;
+  if (kind === "ArrayBuffer") return new Uint8Array(value);
+  throw new TypeError(`${what} must be a Uint8Array or an ArrayBuffer, not ${kind}`);
+}
+
+/** Bytes of which there must be so many. */
+function exactly(length, what, value) {
+  const bytes = bytesOf(what, value);
+  if (bytes.length !== length) throw new RangeError(`${what} must be ${length} bytes, not ${bytes.length}`);
+  return bytes;
+}
+
+/** A whole number from 0 to the most there is. */
+function upTo(most, what, value) {
+  if (typeof value !== "number") throw new TypeError(`${what} must be a number, not ${typeof value}`);
+  if (Number.isInteger(value) && value >= 0 && value <= most) return value;
+  throw new RangeError(`${what} must be a whole number from 0 to ${most}, not ${value}`);
+}

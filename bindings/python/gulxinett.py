@@ -1,0 +1,261 @@
+"""The Game Boy Camera cartridge controller, over the C functions of its shared library.
+
+A Cartridge owns state, ROM, RAM, frame store and the image lent. The library is the file that the environment's
+GULXINETT_LIB names, or target/lib/ARCH/libgulxinett.so of the repository that this file stands in, or the system's.
+
+What the controller refuses is raised as a Refusal with its number; what is no number or bytes of its kind as a
+TypeError or ValueError. Either way nothing has changed.
+"""
+
+import ctypes
+import operator
+import os
+import platform
+from pathlib import Path
+from typing import NamedTuple, Optional
+
+#: Bytes of the state record.
+STATE_BYTES = 116
+#: Camera registers.
+REGISTERS = 54
+#: Bytes in one ROM bank.
+ROM_BANK = 16_384
+#: Bytes in one RAM bank.
+RAM_BANK = 8_192
+#: Bytes in an image and in the frame store: 128 rows of 128.
+FRAME_BYTES = 16_384
+#: Bytes of a picture: two bits for each of 128 by 112 pixels.
+PICTURE_BYTES = 3_584
+#: Where the picture lies in RAM bank 0.
+PICTURE_OFFSET = 0x100
+
+# Where the registers stand in the state record.
+_REGISTERS_OFFSET = 8
+
+# What each refusal number says.
+_SENTENCES = {
+    1: "the state record can't exist",
+    2: "the ROM length is not allowed",
+    3: "the RAM length is not allowed",
+    4: "the image or the frame store is not 16,384 bytes",
+    5: "the address is outside 0000-7FFF and A000-BFFF",
+}
+
+# What each function is given: lent memory is a place and a length, a bare place has a length that is settled.
+_PLACE = ctypes.POINTER(ctypes.c_ubyte)
+_LENT = (_PLACE, ctypes.c_size_t)
+_FUNCTIONS = {
+    "reset": _LENT,
+    "read": _LENT * 3 + (ctypes.c_uint16,),
+    "write": _LENT * 4 + (ctypes.c_uint16, ctypes.c_uint8),
+    "tick": _LENT * 3 + (ctypes.c_uint32,),
+    "inspect": _LENT,
+    "picture": _LENT + (_PLACE, _PLACE),
+}
+
+
+class Refusal(Exception):
+    """A call that was refused, by its number; it changed nothing."""
+
+    def __init__(self, number):
+        super().__init__(_SENTENCES.get(number, "refusal %d" % number))
+        self.number = number
+
+
+class Save(NamedTuple):
+    """All that a cartridge needs to go on elsewhere; the ROM is brought by whoever goes on."""
+
+    state: bytes
+    ram: bytes
+    store: bytes
+
+
+class Element(NamedTuple):
+    """An element of the 4 by 4 matrix, row and column from 0 to 3."""
+
+    row: int
+    column: int
+
+
+# The functions of the library by their short names, once it is loaded.
+_loaded = {}
+
+
+def load(path=None):
+    """Loads the shared library; without a path, where it is looked for. The first call does so by itself."""
+    library = ctypes.CDLL(str(path)) if path is not None else _found()
+    functions = {}
+    for name, given in _FUNCTIONS.items():
+        functions[name] = getattr(library, "gulxinett_" + name)
+        functions[name].argtypes = given
+        functions[name].restype = ctypes.c_uint64
+    _loaded.update(functions)
+
+
+def _found():
+    """The library that the environment names, the repository's, or the system's."""
+    named = os.environ.get("GULXINETT_LIB")
+    if named:
+        try:
+            return ctypes.CDLL(named)
+        except OSError as error:
+            raise OSError("the library that GULXINETT_LIB names can't be loaded: %s" % error) from None
+    machine = platform.machine().lower()
+    folder = {"x86_64": "x86-64", "amd64": "x86-64", "arm64": "aarch64"}.get(machine, machine)
+    built = Path(__file__).resolve().parents[2] / "target" / "lib" / folder / "libgulxinett.so"
+    if built.exists():
+        return ctypes.CDLL(str(built))
+    try:
+        return ctypes.CDLL("libgulxinett.so")
+    except OSError:
+        raise OSError(
+            "there is no libgulxinett.so: GULXINETT_LIB is not set, %s is not there ('./build native' of the "
+            "repository makes it), and the system has none" % built
+        ) from None
+
+
+def _call(name, *words):
+    """Calls a function with lent memory and numbers; its value, or its refusal raised."""
+    if not _loaded:
+        load()
+    answer = _loaded[name](*words)
+    if answer >> 32:
+        raise Refusal(answer >> 32)
+    return answer & 0xFFFF_FFFF
+
+
+def _lent(*pieces):
+    """Pieces of memory as the functions take them: place and length of each."""
+    return [word for piece in pieces for word in (piece, len(piece))]
+
+
+def _memory(what, value):
+    """A copy of some bytes, as memory that can be lent."""
+    try:
+        view = memoryview(value)
+    except TypeError:
+        raise TypeError("%s must be bytes, not %s" % (what, type(value).__name__)) from None
+    if view.itemsize != 1:
+        raise TypeError("%s must be bytes, not items of %d bytes" % (what, view.itemsize))
+    return (ctypes.c_ubyte * view.nbytes).from_buffer_copy(view.tobytes())
+
+
+def _up_to(most, what, value):
+    """A whole number from 0 to the most there is."""
+    try:
+        number = operator.index(value)
+    except TypeError:
+        raise TypeError("%s must be a whole number, not %s" % (what, type(value).__name__)) from None
+    if not 0 <= number <= most:
+        raise ValueError("%s must be a whole number from 0 to %d, not %d" % (what, most, number))
+    return number
+
+
+def picture(frame, registers):
+    """The whole picture of a frame under 54 registers taken, as RAM bank 0 gets it from offset 100h on."""
+    frame, registers = _memory("the frame", frame), _memory("the registers", registers)
+    if len(registers) != REGISTERS:
+        raise ValueError("the registers must be %d bytes, not %d" % (REGISTERS, len(registers)))
+    plate = (ctypes.c_ubyte * PICTURE_BYTES)()
+    _call("picture", *_lent(frame), registers, plate)
+    return bytes(plate)
+
+
+class Cartridge:
+    """A cartridge: state, ROM, RAM, frame store and the image lent.
+
+    Without a word: one bank of ROM and of RAM full of FF, the state after reset, a frame store of 00.
+    """
+
+    def __init__(self, rom=None, ram=None, state=None, store=None):
+        self._state = _memory("the state", bytes(STATE_BYTES) if state is None else state)
+        self._rom = _memory("the ROM", b"\xff" * ROM_BANK if rom is None else rom)
+        self._ram = _memory("the RAM", b"\xff" * RAM_BANK if ram is None else ram)
+        self._store = _memory("the frame store", bytes(FRAME_BYTES) if store is None else store)
+        self._image = _memory("the image", bytes(FRAME_BYTES))
+        self._closed = False
+        if state is None:
+            self.reset()
+        # the library judges what was given: a read looks at state, ROM and RAM, no cycles at the store too
+        self.read(0)
+        self.tick(0)
+
+    @classmethod
+    def restore(cls, save, rom=None):
+        """A cartridge that goes on from a save, made here or in another language."""
+        try:
+            save = Save(*save)
+        except TypeError:
+            raise TypeError("a save must have state, ram and store") from None
+        for part, value in save._asdict().items():
+            _memory("the save's " + part, value)
+        return cls(rom=rom, **save._asdict())
+
+    def _open(self):
+        if self._closed:
+            raise ValueError("the cartridge is closed")
+
+    def reset(self):
+        """Resets the state; RAM, frame store and image stay."""
+        self._open()
+        _call("reset", *_lent(self._state))
+
+    def read(self, address):
+        """The byte at an address."""
+        self._open()
+        address = _up_to(0xFFFF, "the address", address)
+        return _call("read", *_lent(self._state, self._rom, self._ram), address)
+
+    def write(self, address, value):
+        """Writes a byte to an address; a start copies the image lent to the frame store."""
+        self._open()
+        address, value = _up_to(0xFFFF, "the address", address), _up_to(0xFF, "the value", value)
+        _call("write", *_lent(self._state, self._ram, self._store, self._image), address, value)
+
+    def tick(self, cycles):
+        """Lets cycles pass; how many of them fell while a capture was running."""
+        self._open()
+        cycles = _up_to(0xFFFF_FFFF, "the cycles", cycles)
+        return _call("tick", *_lent(self._state, self._ram, self._store), cycles)
+
+    def inspect(self) -> Optional[Element]:
+        """The first element of the current matrix whose three values don't rise or stay level, if there is one."""
+        self._open()
+        value = _call("inspect", *_lent(self._state))
+        return Element(value >> 4 & 15, value & 15) if value else None
+
+    def lend(self, image):
+        """Lends an image of 16,384 bytes to the writes that follow; until then it is all 00."""
+        self._open()
+        image = _memory("the image", image)
+        if len(image) != FRAME_BYTES:
+            raise Refusal(4)
+        self._image = image
+
+    def picture(self, frame=None, registers=None):
+        """The picture afresh: by itself that of the image lent, under the registers as last written."""
+        self._open()
+        written = bytes(self._state)[_REGISTERS_OFFSET : _REGISTERS_OFFSET + REGISTERS]
+        return picture(self._image if frame is None else frame, written if registers is None else registers)
+
+    def plate(self):
+        """The picture area as it stands in RAM, 3,584 bytes."""
+        self._open()
+        return bytes(self._ram[PICTURE_OFFSET : PICTURE_OFFSET + PICTURE_BYTES])
+
+    def save(self):
+        """Copies of state, RAM and frame store."""
+        self._open()
+        return Save(bytes(self._state), bytes(self._ram), bytes(self._store))
+
+    def close(self):
+        """Gives the memory back; every later call but this one is an error."""
+        self._closed = True
+        self._state = self._rom = self._ram = self._store = self._image = None
+
+    def __enter__(self):
+        self._open()
+        return self
+
+    def __exit__(self, *_):
+        self.close()

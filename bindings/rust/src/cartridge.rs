@@ -1,0 +1,144 @@
+//! A cartridge that owns its memory.
+
+use crate::{
+    inspect, picture, read, reset, tick, write, Element, Refusal, State, FRAME_BYTES,
+    PICTURE_BYTES, PICTURE_OFFSET, RAM_BANK, ROM_BANK,
+};
+
+/// State, ROM, RAM, frame store and the image lent. Dropping it is closing it.
+#[derive(Clone, Debug, PartialEq, Eq)]
+pub struct Cartridge {
+    state: State,
+    rom: Vec<u8>,
+    ram: Vec<u8>,
+    store: Vec<u8>,
+    image: Vec<u8>,
+}
+
+/// All that a cartridge needs to go on elsewhere; the ROM is brought by whoever goes on.
+#[derive(Clone, Debug, PartialEq, Eq)]
+pub struct Save {
+    /// The state record's bytes.
+    pub state: Vec<u8>,
+    /// The RAM.
+    pub ram: Vec<u8>,
+    /// The frame store.
+    pub store: Vec<u8>,
+}
+
+impl Default for Cartridge {
+    /// One bank of ROM and of RAM full of FF, the state after reset.
+    fn default() -> Self {
+        Cartridge {
+            state: reset(),
+            rom: vec![0xFF; ROM_BANK],
+            ram: vec![0xFF; RAM_BANK],
+            store: vec![0; FRAME_BYTES],
+            image: vec![0; FRAME_BYTES],
+        }
+    }
+}
+
+impl Cartridge {
+    /// A cartridge with this ROM and RAM, after reset.
+    pub fn new(rom: Vec<u8>, ram: Vec<u8>) -> Result<Self, Refusal> {
+        Cartridge {
+            rom,
+            ram,
+            ..Cartridge::default()
+        }
+        .judged()
+    }
+
+    /// A cartridge that goes on from a save, made here or in another language, with one bank of
+    /// ROM full of FF.
+    pub fn restore(save: Save) -> Result<Self, Refusal> {
+        Cartridge::restore_with(save, vec![0xFF; ROM_BANK])
+    }
+
+    /// A cartridge that goes on from a save with this ROM.
+    pub fn restore_with(save: Save, rom: Vec<u8>) -> Result<Self, Refusal> {
+        let record = save.state.as_slice().try_into().ok();
+        Cartridge {
+            state: record.and_then(State::decode).ok_or(Refusal::State)?,
+            rom,
+            ram: save.ram,
+            store: save.store,
+            ..Cartridge::default()
+        }
+        .judged()
+    }
+
+    /// Lets the archive judge what was given: a read looks at state, ROM and RAM, no cycles at the
+    /// store too.
+    fn judged(mut self) -> Result<Self, Refusal> {
+        self.read(0)?;
+        self.tick(0)?;
+        Ok(self)
+    }
+
+    /// Resets the state; RAM, frame store and image stay.
+    pub fn reset(&mut self) {
+        self.state = reset();
+    }
+
+    /// Reads the byte at an address.
+    pub fn read(&self, address: u16) -> Result<u8, Refusal> {
+        read(&self.state, &self.rom, &self.ram, address)
+    }
+
+    /// Writes a byte to an address; a start copies the image lent to the frame store.
+    pub fn write(&mut self, address: u16, value: u8) -> Result<(), Refusal> {
+        let Cartridge {
+            state,
+            ram,
+            store,
+            image,
+            ..
+        } = self;
+        write(state, ram, store, image, address, value)
+    }
+
+    /// Lets cycles pass; returns how many fell while a capture was running.
+    pub fn tick(&mut self, cycles: u32) -> Result<u32, Refusal> {
+        tick(&mut self.state, &mut self.ram, &self.store, cycles)
+    }
+
+    /// The first element of the current matrix whose three values don't rise or stay level.
+    pub fn inspect(&self) -> Result<Option<Element>, Refusal> {
+        inspect(&self.state)
+    }
+
+    /// Lends an image of 16,384 bytes to the writes that follow; until then it is all 00.
+    pub fn lend(&mut self, image: &[u8]) -> Result<(), Refusal> {
+        if image.len() != FRAME_BYTES {
+            return Err(Refusal::Frame);
+        }
+        self.image.copy_from_slice(image);
+        Ok(())
+    }
+
+    /// The picture afresh of the image lent, under the registers as last written.
+    pub fn picture(&self) -> Result<[u8; PICTURE_BYTES], Refusal> {
+        picture(&self.image, &self.state.registers)
+    }
+
+    /// The picture area as it stands in RAM.
+    pub fn plate(&self) -> &[u8] {
+        &self.ram[PICTURE_OFFSET..PICTURE_OFFSET + PICTURE_BYTES]
+    }
+
+    /// The state record as it stands.
+    pub fn state(&self) -> &State {
+        &self.state
+    }
+
+    /// Copies of state, RAM and frame store.
+    pub fn save(&self) -> Save {
+        Save {
+            state: self.state.encode().to_vec(),
+            ram: self.ram.clone(),
+            store: self.store.clone(),
+        }
+    }
+}

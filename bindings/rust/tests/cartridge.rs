@@ -1,0 +1,119 @@
+//! The owner of a cartridge's memory: a save picked up by another, and what bad input gets.
+
+use gulxinett::{
+    picture, Cartridge, Element, Refusal, Save, FRAME_BYTES, PICTURE_BYTES, RAM_BANK, REGISTERS,
+    ROM_BANK, STATE_BYTES,
+};
+
+const TOTAL: u32 = 32_958 + 16 * 0x80;
+
+/// A picture of many shades under a rising matrix.
+fn frame() -> Vec<u8> {
+    (0..FRAME_BYTES).map(|i| (i * 7 + i / 128) as u8).collect()
+}
+
+fn registers() -> [u8; REGISTERS] {
+    let mut registers = [0; REGISTERS];
+    (registers[0], registers[3]) = (3, 0x80);
+    for (place, value) in registers.iter_mut().enumerate().skip(6) {
+        *value = (0x40 + 0x20 * (place % 3) + place) as u8;
+    }
+    registers
+}
+
+/// A cartridge with a capture half way.
+fn half_way() -> Cartridge {
+    let mut cartridge = Cartridge::default();
+    cartridge.lend(&frame()).unwrap();
+    cartridge.write(0x4000, 0x10).unwrap();
+    for (address, value) in (0xA000..).zip(registers()).rev() {
+        cartridge.write(address, value).unwrap();
+    }
+    assert_eq!(cartridge.tick(TOTAL / 2), Ok(TOTAL / 2));
+    cartridge
+}
+
+#[test]
+fn a_save_goes_on_elsewhere() {
+    let save = half_way().save();
+    let mut other = Cartridge::restore(save.clone()).unwrap();
+    assert_eq!(other.save(), save);
+    let fresh = picture(&frame(), &registers()).unwrap();
+    assert_ne!(other.plate(), fresh);
+    assert_eq!(other.tick(u32::MAX), Ok(TOTAL - TOTAL / 2));
+    assert_eq!(other.plate(), fresh);
+    assert!(!other.state().held);
+}
+
+#[test]
+fn the_calls() {
+    let mut rom = vec![0x5A; 2 * ROM_BANK];
+    rom[ROM_BANK] = 0xA5;
+    let mut cartridge = Cartridge::new(rom.clone(), vec![1; 2 * RAM_BANK]).unwrap();
+    assert_eq!(cartridge.read(0), Ok(0x5A));
+    assert_eq!(cartridge.read(0x4000), Ok(0xA5));
+    assert_eq!(cartridge.inspect(), Ok(None));
+    cartridge.lend(&frame()).unwrap();
+    cartridge.write(0x4000, 0x10).unwrap();
+    for (address, value) in (0xA000..).zip(registers()).skip(1) {
+        cartridge.write(address, value).unwrap();
+    }
+    assert_eq!(cartridge.picture(), picture(&frame(), &registers()));
+    cartridge.write(0xA006, 0xFF).unwrap();
+    let first = Element { row: 0, column: 0 };
+    assert_eq!(cartridge.inspect(), Ok(Some(first)));
+    let other = Cartridge::restore_with(cartridge.save(), rom).unwrap();
+    assert_eq!(other.read(0x4000), Ok(0xA5));
+    cartridge.reset();
+    assert_eq!(cartridge.inspect(), Ok(None));
+    assert_eq!(cartridge.plate(), [1; PICTURE_BYTES]);
+}
+
+#[test]
+fn refused_calls_change_nothing() {
+    let mut cartridge = half_way();
+    let before = cartridge.clone();
+    assert_eq!(cartridge.read(0x8000), Err(Refusal::Address));
+    assert_eq!(cartridge.write(0xC000, 1), Err(Refusal::Address));
+    for length in [0, FRAME_BYTES - 1, FRAME_BYTES + 1] {
+        assert_eq!(cartridge.lend(&vec![9; length]), Err(Refusal::Frame));
+    }
+    assert_eq!(cartridge, before);
+}
+
+#[test]
+fn memory_of_a_wrong_length() {
+    let made = |rom, ram| Cartridge::new(vec![0; rom], vec![0; ram]).map(|_| ());
+    assert_eq!(made(64 * ROM_BANK, 16 * RAM_BANK), Ok(()));
+    for rom in [0, 1, ROM_BANK - 1, 3 * ROM_BANK, 128 * ROM_BANK] {
+        assert_eq!(made(rom, RAM_BANK), Err(Refusal::Rom));
+    }
+    for ram in [0, 1, RAM_BANK - 1, 3 * RAM_BANK, 32 * RAM_BANK] {
+        assert_eq!(made(ROM_BANK, ram), Err(Refusal::Ram));
+    }
+}
+
+#[test]
+fn saves_that_are_none() {
+    let good = half_way().save();
+    let restored = |change: &dyn Fn(&mut Save)| {
+        let mut save = good.clone();
+        change(&mut save);
+        Cartridge::restore(save).map(|_| ())
+    };
+    assert_eq!(restored(&|_| ()), Ok(()));
+    for length in [0, STATE_BYTES - 1, STATE_BYTES + 1] {
+        let cut = restored(&|save| save.state.resize(length, 0));
+        assert_eq!(cut, Err(Refusal::State));
+    }
+    assert_eq!(restored(&|save| save.state[3] = 2), Err(Refusal::State));
+    assert_eq!(restored(&|save| save.state[1] = 64), Err(Refusal::State));
+    for length in [0, RAM_BANK - 1, 3 * RAM_BANK] {
+        let cut = restored(&|save| save.ram.resize(length, 0));
+        assert_eq!(cut, Err(Refusal::Ram));
+    }
+    for length in [0, FRAME_BYTES - 1, FRAME_BYTES + 1] {
+        let cut = restored(&|save| save.store.resize(length, 0));
+        assert_eq!(cut, Err(Refusal::Frame));
+    }
+}
