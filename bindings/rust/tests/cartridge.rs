@@ -26,8 +26,10 @@ fn half_way() -> Cartridge {
     let mut cartridge = Cartridge::default();
     cartridge.lend(&frame()).unwrap();
     cartridge.write(0x4000, 0x10).unwrap();
-    for (address, value) in (0xA000..).zip(registers()).rev() {
-        cartridge.write(address, value).unwrap();
+    // register 0 last: it starts the capture
+    for number in (0..REGISTERS).rev() {
+        let address = 0xA000 + number as u16;
+        cartridge.write(address, registers()[number]).unwrap();
     }
     assert_eq!(cartridge.tick(TOTAL / 2), Ok(TOTAL / 2));
     cartridge
@@ -37,11 +39,11 @@ fn half_way() -> Cartridge {
 fn a_save_goes_on_elsewhere() {
     let save = half_way().save();
     let mut other = Cartridge::restore(save.clone()).unwrap();
-    assert_eq!(other.save(), save);
+    assert!(other.save() == save);
     let fresh = picture(&frame(), &registers()).unwrap();
-    assert_ne!(other.plate(), fresh);
+    assert!(other.plate() != fresh);
     assert_eq!(other.tick(u32::MAX), Ok(TOTAL - TOTAL / 2));
-    assert_eq!(other.plate(), fresh);
+    assert!(other.plate() == fresh);
     assert!(!other.state().held);
 }
 
@@ -55,10 +57,11 @@ fn the_calls() {
     assert_eq!(cartridge.inspect(), Ok(None));
     cartridge.lend(&frame()).unwrap();
     cartridge.write(0x4000, 0x10).unwrap();
+    cartridge.write(0xA000, registers()[0] & 6).unwrap();
     for (address, value) in (0xA000..).zip(registers()).skip(1) {
         cartridge.write(address, value).unwrap();
     }
-    assert_eq!(cartridge.picture(), picture(&frame(), &registers()));
+    assert!(cartridge.picture() == picture(&frame(), &registers()));
     cartridge.write(0xA006, 0xFF).unwrap();
     let first = Element { row: 0, column: 0 };
     assert_eq!(cartridge.inspect(), Ok(Some(first)));
@@ -66,7 +69,7 @@ fn the_calls() {
     assert_eq!(other.read(0x4000), Ok(0xA5));
     cartridge.reset();
     assert_eq!(cartridge.inspect(), Ok(None));
-    assert_eq!(cartridge.plate(), [1; PICTURE_BYTES]);
+    assert!(cartridge.plate() == [1; PICTURE_BYTES]);
 }
 
 #[test]
@@ -78,7 +81,7 @@ fn refused_calls_change_nothing() {
     for length in [0, FRAME_BYTES - 1, FRAME_BYTES + 1] {
         assert_eq!(cartridge.lend(&vec![9; length]), Err(Refusal::Frame));
     }
-    assert_eq!(cartridge, before);
+    assert!(cartridge == before);
 }
 
 #[test]
