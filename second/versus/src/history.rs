@@ -1,5 +1,6 @@
 //! Random histories, aimed at the edges of captures.
 
+use crate::answers::Answers;
 use crate::call::{Call, Lent};
 use crate::random::Random;
 use crate::sides::{Beginning, Pair};
@@ -53,12 +54,19 @@ impl<'a> History<'a> {
     }
 
     /// Makes up and plays steps until so many calls are compared or the sides part.
-    pub fn play(&mut self, calls: u64) -> Result<(), String> {
+    pub fn play(&mut self, calls: u64, mut answers: Option<&mut Answers>) -> Result<(), String> {
         while self.compared < calls {
             let call = self.next();
             let before = self.state();
+            let mut answers = answers.as_deref_mut().filter(|_| call.is_call());
+            if let Some(answers) = &mut answers {
+                answers.lend(&self.pair.second);
+            }
             self.calls.push(call.clone());
-            self.pair.play(&call)?;
+            let answer = self.pair.play(&call)?;
+            if let Some(answers) = answers {
+                answers.call(&call, answer, &self.pair.second);
+            }
             self.compared += u64::from(call.is_call());
             self.count_captures(&call, before);
         }

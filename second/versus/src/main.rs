@@ -3,10 +3,12 @@
 //! `versus [CALLS [SEED]]` plays random histories and sweeps on both and compares every answer,
 //! state and lent byte. `versus script PROGRAM_A PROGRAM_B [SCRIPTS [SEED]]` feeds random scripts
 //! to two programs and compares what they print; each is named with its arguments in one word of
-//! the shell, apart by spaces.
+//! the shell, apart by spaces. `versus answers FILE [CALLS [SEED]]` compares as the first does, and
+//! writes every call with the second program's answer to a file, for another caller to replay.
 
 #![forbid(unsafe_code)]
 
+mod answers;
 mod call;
 mod history;
 mod random;
@@ -15,6 +17,7 @@ mod shrink;
 mod sides;
 mod sweep;
 
+use answers::Answers;
 use call::Call;
 use history::History;
 use random::Random;
@@ -29,6 +32,8 @@ const CALLS: u64 = 1_200_000;
 const HISTORY: u64 = 2_000;
 /// Differences shown before giving up.
 const SHOWN: usize = 3;
+/// Calls of the histories whose answers are written unless told otherwise.
+const ANSWERED: u64 = 120_000;
 /// Scripts fed unless told otherwise.
 const SCRIPTS: u64 = 300;
 
@@ -38,16 +43,19 @@ fn main() -> ExitCode {
         Some(word) => word.parse().ok(),
         None => Some(default),
     };
-    let same = if arguments.first().is_some_and(|word| word == "script") {
-        match (arguments.get(1..3), number(3, SCRIPTS), number(4, 1)) {
+    let same = match arguments.first().map(String::as_str) {
+        Some("script") => match (arguments.get(1..3), number(3, SCRIPTS), number(4, 1)) {
             (Some([a, b]), Some(scripts), Some(seed)) => script::compare(a, b, scripts, seed),
             _ => return usage(),
-        }
-    } else {
-        match (number(0, CALLS), number(1, 1)) {
-            (Some(calls), Some(seed)) => compare(calls, seed),
+        },
+        Some("answers") => match (arguments.get(1), number(2, ANSWERED), number(3, 1)) {
+            (Some(file), Some(calls), Some(seed)) => write_answers(file, calls, seed),
             _ => return usage(),
-        }
+        },
+        _ => match (number(0, CALLS), number(1, 1)) {
+            (Some(calls), Some(seed)) => compare(calls, seed, None).is_some(),
+            _ => return usage(),
+        },
     };
     if same {
         ExitCode::SUCCESS
@@ -59,14 +67,35 @@ fn main() -> ExitCode {
 fn usage() -> ExitCode {
     eprintln!("usage: versus [CALLS [SEED]]");
     eprintln!("       versus script PROGRAM_A PROGRAM_B [SCRIPTS [SEED]]");
+    eprintln!("       versus answers FILE [CALLS [SEED]]");
     ExitCode::from(2)
 }
 
-/// Sweeps and histories; true if nothing differs.
-fn compare(calls: u64, seed: u64) -> bool {
+/// Sweeps and histories with their answers written to a file or a pipe; true if nothing differs.
+fn write_answers(path: &str, calls: u64, seed: u64) -> bool {
+    let written = Answers::new(path).and_then(|answers| {
+        compare(calls, seed, Some(answers))
+            .flatten()
+            .map(Answers::finish)
+            .transpose()
+    });
+    match written {
+        Ok(whole) => whole.is_some(),
+        Err(error) => {
+            eprintln!("versus: {path} can't be written: {error}");
+            false
+        }
+    }
+}
+
+/// Sweeps and histories; gives the answers back, if they were asked for, where nothing differs.
+fn compare(calls: u64, seed: u64, answers: Option<Answers>) -> Option<Option<Answers>> {
     let start = Instant::now();
     let mut random = Random::new(seed);
-    let mut tally = Tally::default();
+    let mut tally = Tally {
+        answers,
+        ..Tally::default()
+    };
     sweep::refusals(&mut tally);
     println!("refusal combinations: {} calls compared", tally.compared);
     let refusals = tally.compared;
@@ -84,7 +113,8 @@ fn compare(calls: u64, seed: u64) -> bool {
     let (mut compared, mut captures) = (0, 0);
     while compared < calls && differences < SHOWN {
         let mut history = History::new(&mut random);
-        if let Err(difference) = history.play(HISTORY.min(calls - compared)) {
+        if let Err(difference) = history.play(HISTORY.min(calls - compared), tally.answers.as_mut())
+        {
             differences += 1;
             report(&history.beginning, history.calls.clone(), &difference);
         }
@@ -97,7 +127,7 @@ fn compare(calls: u64, seed: u64) -> bool {
         compared + tally.compared,
         start.elapsed().as_secs_f64()
     );
-    differences == 0
+    (differences == 0).then_some(tally.answers)
 }
 
 /// Where a list of calls makes the sides part, if it does.

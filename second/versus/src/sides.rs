@@ -6,7 +6,7 @@ use gulxinett::bytes;
 use second::State;
 
 /// What the picture's bytes hold before a call draws it.
-const UNDRAWN: u8 = 0xA5;
+pub const UNDRAWN: u8 = 0xA5;
 
 /// A refusal as the interface answers it.
 pub fn refused(number: u64) -> u64 {

@@ -1,5 +1,6 @@
 //! Every combination of good and bad arguments, and every setting of the picture.
 
+use crate::answers::Answers;
 use crate::call::{Call, Lent};
 use crate::random::Random;
 use crate::sides::{paint, parted, refused, Beginning, Pair, Side};
@@ -8,11 +9,12 @@ use second::State;
 /// Something to lend or give, and whether it is to be refused.
 type Choice<T> = (T, bool);
 
-/// Counts comparisons and keeps the first differences.
+/// Counts comparisons, keeps the first differences and notes the answers if asked to.
 #[derive(Default)]
 pub struct Tally {
     pub compared: u64,
     pub differences: Vec<String>,
+    pub answers: Option<Answers>,
 }
 
 impl Tally {
@@ -22,6 +24,10 @@ impl Tally {
         let mut archive = side.clone();
         let mut second = side.clone();
         let answers = [archive.call_archive(call), second.call_second(call)];
+        if let Some(notes) = &mut self.answers {
+            notes.lend(side);
+            notes.call(call, answers[1], &second);
+        }
         let due_now = due.map_or(answers[1] >> 32 == 0, |number| {
             answers[1] == refused(number)
         });
