@@ -3,7 +3,10 @@
 const ALIGN = 16;
 const PAGE = 65_536;
 
-const rounded = (length) => Math.ceil(Math.max(length, 1) / ALIGN) * ALIGN;
+const aligned = (address) => Math.ceil(address / ALIGN) * ALIGN;
+
+/** The room that a piece takes; none has no place of its own. */
+const roomFor = (length) => aligned(Math.max(length, 1));
 
 /** A piece of the module's memory. */
 class Piece {
@@ -29,7 +32,7 @@ export class Memory {
 
   constructor(memory, base) {
     this.#memory = memory;
-    const start = rounded(base);
+    const start = aligned(base);
     this.#insert(start, memory.buffer.byteLength - start);
   }
 
@@ -47,11 +50,11 @@ export class Memory {
 
   /** Takes back the pieces that `keep` gave. */
   release(kept) {
-    for (const { address, length } of Object.values(kept)) this.#insert(address, rounded(length));
+    for (const { address, length } of Object.values(kept)) this.#insert(address, roomFor(length));
   }
 
   #copy(bytes) {
-    const piece = new Piece(this.#memory, this.#take(rounded(bytes.length)), bytes.length);
+    const piece = new Piece(this.#memory, this.#take(roomFor(bytes.length)), bytes.length);
     piece.bytes.set(bytes);
     return piece;
   }
@@ -69,10 +72,13 @@ export class Memory {
     return start;
   }
 
+  /** Lets the memory grow until its end, with what is free there, has room enough. */
   #grow(length) {
     const end = this.#memory.buffer.byteLength;
+    const last = this.#free.at(-1);
+    const room = last && last.start + last.length === end ? last.length : 0;
     try {
-      this.#memory.grow(Math.ceil(length / PAGE));
+      this.#memory.grow(Math.ceil((length - room) / PAGE));
     } catch {
       throw new RangeError(`the module's memory has no room for ${length} bytes more`);
     }

@@ -100,9 +100,7 @@ def _found():
             return ctypes.CDLL(named)
         except OSError as error:
             raise OSError("the library that GULXINETT_LIB names can't be loaded: %s" % error) from None
-    machine = platform.machine().lower()
-    folder = {"x86_64": "x86-64", "amd64": "x86-64", "arm64": "aarch64"}.get(machine, machine)
-    built = Path(__file__).resolve().parents[2] / "target" / "lib" / folder / "libgulxinett.so"
+    built = Path(__file__).resolve().parents[2] / "target" / "lib" / _processor() / "libgulxinett.so"
     if built.exists():
         return ctypes.CDLL(str(built))
     try:
@@ -112,6 +110,12 @@ def _found():
             "there is no libgulxinett.so: GULXINETT_LIB is not set, %s is not there ('./build native' of the "
             "repository makes it), and the system has none" % built
         ) from None
+
+
+def _processor():
+    """This machine's processor, by the name its folder has."""
+    machine = platform.machine().lower()
+    return {"x86_64": "x86-64", "amd64": "x86-64", "arm64": "aarch64"}.get(machine, machine)
 
 
 def _call(name, *words):

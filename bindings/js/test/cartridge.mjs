@@ -1,0 +1,262 @@
+// The module and the class over it: how it is loaded, what its cartridges do side by side, and what bad input gets.
+// usage: node cartridge.mjs
+import assert from "node:assert/strict";
+import { readFileSync } from "node:fs";
+import { createServer } from "node:http";
+import { relative } from "node:path";
+import { fileURLToPath } from "node:url";
+import * as gulxinett from "../gulxinett.js";
+import { Memory } from "../memory.js";
+
+const { FRAME_BYTES, PICTURE_BYTES, RAM_BANK, REGISTERS, ROM_BANK, Refusal, STATE_BYTES, load } = gulxinett;
+const place = new URL("../gulxinett.wasm", import.meta.url);
+const bytes = readFileSync(place);
+const { Cartridge, picture } = await load();
+
+const TOTAL = 32_958 + 16 * 0x80;
+const registers = Uint8Array.from({ length: REGISTERS }, (_, n) => (n < 6 ? [3, 0, 0, 0x80, 0, 0][n] : 0x40 + 0x20 * (n % 3) + n));
+
+/** A frame of its own for each number. */
+const frame = (number) => Uint8Array.from({ length: FRAME_BYTES }, (_, i) => i * (7 + 2 * number) + (i >> 7));
+
+const say = (...words) => console.log("cartridge.mjs:", ...words);
+
+/** Starts a capture of a frame; register 0, written last, is the start. */
+function begin(cartridge, number) {
+  cartridge.lend(frame(number));
+  cartridge.write(0x4000, 0x10);
+  for (let n = REGISTERS - 1; n >= 0; n--) cartridge.write(0xa000 + n, registers[n]);
+  return cartridge;
+}
+
+/** What a cartridge is, all of it. */
+const whole = (cartridge) => ({ ...cartridge.save(), image: cartridge.picture() });
+
+/** The work must throw an error of a kind, with these words in it. */
+function throws(kind, words, work) {
+  assert.throws(work, (error) => error instanceof kind && error.message.includes(words), `${kind.name}: ${words}`);
+}
+
+/** The work must be refused by a number. */
+function refused(number, work) {
+  assert.throws(work, (error) => error instanceof Refusal && error.number === number && error.message.length > 20);
+}
+
+function theModule() {
+  const module = new WebAssembly.Module(bytes);
+  assert.deepEqual(WebAssembly.Module.imports(module), []);
+  const names = WebAssembly.Module.exports(module).map(({ name }) => name);
+  for (const name of ["memory", "__heap_base"]) assert.ok(names.includes(name), name);
+  const functions = names.filter((name) => name.startsWith("gulxinett_"));
+  assert.deepEqual(functions.length + 2, names.length);
+  say(`the module: ${bytes.length} bytes, no imports, ${functions.length} functions`);
+}
+
+async function loading() {
+  const server = createServer((request, response) => {
+    response.statusCode = request.url === "/gulxinett.wasm" ? 200 : 404;
+    response.end(response.statusCode === 200 ? bytes : undefined);
+  });
+  await new Promise((ready) => server.listen(0, "127.0.0.1", ready));
+  const site = `http://127.0.0.1:${server.address().port}`;
+  const path = fileURLToPath(place);
+  const sources = {
+    bytes,
+    "an ArrayBuffer": bytes.buffer.slice(bytes.byteOffset, bytes.byteOffset + bytes.length),
+    "a file's URL": place,
+    "the same as a string": place.href,
+    "a path": path,
+    "a relative path": relative(process.cwd(), path),
+    "a site's URL": new URL("gulxinett.wasm", site),
+    "the same as a string, too": `${site}/gulxinett.wasm`,
+    "a data URL": `data:application/wasm;base64,${bytes.toString("base64")}`,
+    "a compiled module": new WebAssembly.Module(bytes),
+  };
+  for (const [name, source] of Object.entries(sources)) {
+    assert.equal(new (await load(source)).Cartridge().read(0), 0xff, name);
+  }
+  await assert.rejects(load(`${site}/other.wasm`), /other\.wasm: 404/);
+  await assert.rejects(load("no/such/module.wasm"), /no such file/);
+  await assert.rejects(load(7), /must be a Uint8Array or an ArrayBuffer, not Number/);
+  await assert.rejects(load(new Uint8Array(8)), WebAssembly.CompileError);
+  server.close();
+  say(`loaded from ${Object.keys(sources).length} kinds of places; 4 that are none rejected`);
+}
+
+function calls() {
+  const rom = new Uint8Array(2 * ROM_BANK).fill(0x5a).fill(0xa5, ROM_BANK);
+  const cartridge = new Cartridge({ rom, ram: new Uint8Array(2 * RAM_BANK).fill(1) });
+  assert.deepEqual([cartridge.read(0), cartridge.read(0x4000)], [0x5a, 0xa5]);
+  assert.equal(cartridge.inspect(), null);
+  cartridge.write(0x4000, 0x10);
+  cartridge.write(0xa006 + 3 * 7, 1);
+  assert.deepEqual(cartridge.inspect(), { row: 1, column: 3 });
+  assert.equal(Cartridge.restore(cartridge.save(), { rom }).read(0x4000), 0xa5);
+  cartridge.reset();
+  assert.equal(cartridge.inspect(), null);
+  assert.deepEqual(cartridge.plate(), new Uint8Array(PICTURE_BYTES).fill(1));
+  begin(cartridge, 1);
+  assert.deepEqual(cartridge.picture(), picture(frame(1), registers));
+  assert.deepEqual(cartridge.picture(frame(2)), picture(frame(2), registers));
+  assert.notDeepEqual(cartridge.picture(), cartridge.picture(frame(2)));
+  assert.equal(cartridge.tick(0xffff_ffff), TOTAL);
+  assert.deepEqual(cartridge.plate(), picture(frame(1), registers));
+  cartridge.close();
+  say("each call, and a whole capture");
+}
+
+/** Many cartridges in one module, so that its memory grows while captures run. */
+function sideBySide() {
+  const many = Array.from({ length: 40 }, (_, number) => {
+    const cartridge = new Cartridge({ rom: new Uint8Array((1 << number % 7) * ROM_BANK).fill(number) });
+    begin(cartridge, number).tick(number * 500);
+    return cartridge;
+  });
+  many.filter((_, number) => number % 3 === 0).forEach((cartridge) => cartridge.close());
+  for (let number = 0; number < 40; number += 3) {
+    many[number] = new Cartridge({ rom: new Uint8Array(ROM_BANK).fill(number) });
+    begin(many[number], number).tick(number * 500);
+  }
+  many.forEach((cartridge, number) => {
+    const other = Cartridge.restore(cartridge.save());
+    for (const one of [cartridge, other]) {
+      assert.equal(one.tick(0xffff_ffff), TOTAL - number * 500);
+      assert.deepEqual(one.plate(), picture(frame(number), registers));
+    }
+    assert.deepEqual([cartridge.read(0), other.read(0)], [number, 0xff]);
+    other.close();
+  });
+  many.forEach((cartridge) => cartridge.close());
+  say(`${many.length} cartridges side by side, every third closed and opened again, each its own plate`);
+}
+
+/** What was given back is dealt out again: keeping and releasing a hundred times needs no more memory. */
+function memory() {
+  const given = new WebAssembly.Memory({ initial: 1 });
+  const memory = new Memory(given, 1000);
+  const sizes = [0, 1, 15, 16, 17, 5000, 70_000, 200_000];
+  const filled = (round) => Object.fromEntries(sizes.map((size, n) => [n, new Uint8Array(size).fill(round + n)]));
+  const stays = memory.keep({ one: new Uint8Array(333).fill(7) });
+  let held = [];
+  let most = 0;
+  for (let round = 0; round < 100; round++) {
+    held.push([round, memory.keep(filled(round))]);
+    if (round % 5 === 4) {
+      for (const [round, kept] of held) {
+        sizes.forEach((size, n) => assert.ok(kept[n].length === size && kept[n].bytes.every((byte) => byte === ((round + n) & 255))));
+        memory.release(kept);
+      }
+      held = [];
+    }
+    if (round === 9) most = given.buffer.byteLength;
+  }
+  assert.equal(given.buffer.byteLength, most);
+  assert.deepEqual(stays.one.bytes, new Uint8Array(333).fill(7));
+  const small = new Memory(new WebAssembly.Memory({ initial: 1, maximum: 2 }), 0);
+  throws(RangeError, "no room", () => small.keep({ fits: new Uint8Array(60_000), not: new Uint8Array(200_000) }));
+  assert.equal(small.keep({ again: new Uint8Array(131_072) }).again.address, 0);
+  say(`a hundred rounds of memory in ${most} bytes; what has no room takes none`);
+}
+
+function badCalls() {
+  const cartridge = begin(new Cartridge(), 3);
+  cartridge.tick(20_000);
+  const before = whole(cartridge);
+  refused(5, () => cartridge.read(0x8000));
+  refused(5, () => cartridge.write(0xc000, 1));
+  for (const length of [0, 1, FRAME_BYTES - 1, FRAME_BYTES + 1]) {
+    refused(4, () => cartridge.lend(new Uint8Array(length)));
+    refused(4, () => picture(new Uint8Array(length), registers));
+    refused(4, () => cartridge.picture(new Uint8Array(length)));
+  }
+  for (const number of [-1, 0x1_0000, 1.5, NaN, Infinity, -Infinity, 2 ** 53]) {
+    throws(RangeError, "the address must be a whole number from 0 to 65535", () => cartridge.read(number));
+    throws(RangeError, "the address", () => cartridge.write(number, 1));
+  }
+  for (const number of [-1, 256, 0.5, NaN]) throws(RangeError, "the value", () => cartridge.write(0xa000, number));
+  for (const number of [-1, 2 ** 32, 0.5]) throws(RangeError, "the cycles", () => cartridge.tick(number));
+  for (const none of [undefined, null, "3", 3n, {}, [3], true]) {
+    throws(TypeError, "the address must be a number", () => cartridge.read(none));
+    throws(TypeError, "the value must be a number", () => cartridge.write(0xa000, none));
+    throws(TypeError, "the cycles must be a number", () => cartridge.tick(none));
+  }
+  for (const none of [undefined, null, "bytes", 16384, Array(FRAME_BYTES).fill(0), new Uint16Array(FRAME_BYTES)]) {
+    throws(TypeError, "the image must be a Uint8Array", () => cartridge.lend(none));
+    throws(TypeError, "the frame must be a Uint8Array", () => picture(none, registers));
+  }
+  for (const length of [0, 53, 55]) {
+    throws(RangeError, "the registers must be 54 bytes", () => picture(frame(1), new Uint8Array(length)));
+  }
+  assert.deepEqual(whole(cartridge), before);
+  cartridge.close();
+  say("calls with bad words: each a clear error, and nothing changed");
+}
+
+function badMemory() {
+  for (const banks of [0, 3, 65, 128]) refused(2, () => new Cartridge({ rom: new Uint8Array(banks * ROM_BANK) }));
+  for (const rest of [1, ROM_BANK - 1, ROM_BANK + 1]) refused(2, () => new Cartridge({ rom: new Uint8Array(rest) }));
+  for (const banks of [0, 3, 17, 32]) refused(3, () => new Cartridge({ ram: new Uint8Array(banks * RAM_BANK) }));
+  for (const rest of [1, RAM_BANK - 1, RAM_BANK + 1]) refused(3, () => new Cartridge({ ram: new Uint8Array(rest) }));
+  throws(TypeError, "the ROM must be", () => new Cartridge({ rom: "rom" }));
+  throws(TypeError, "the RAM must be", () => new Cartridge({ ram: 8192 }));
+  const given = new Uint8Array(RAM_BANK).fill(9);
+  const cartridge = new Cartridge({ ram: given });
+  cartridge.write(0, 0x0a);
+  cartridge.write(0xa000, 1);
+  assert.equal(cartridge.read(0xa000), 1);
+  assert.equal(given[0], 9);
+  cartridge.close();
+  say("ROM and RAM of wrong lengths refused by 2 and 3; what was given is copied");
+}
+
+function badSaves() {
+  const cartridge = begin(new Cartridge(), 4);
+  cartridge.tick(20_000);
+  const save = cartridge.save();
+  const before = structuredClone(save);
+  const patched = (place, byte) => Uint8Array.from(save.state, (old, at) => (at === place ? byte : old));
+  for (const length of [0, 1, STATE_BYTES - 1]) refused(1, () => Cartridge.restore({ ...save, state: save.state.slice(0, length) }));
+  refused(1, () => Cartridge.restore({ ...save, state: new Uint8Array(STATE_BYTES + 1) }));
+  for (const [place, byte] of [[0, 2], [1, 64], [2, 32], [3, 0], [3, 2], [7, 255], [8, 8]]) {
+    refused(1, () => Cartridge.restore({ ...save, state: patched(place, byte) }));
+  }
+  for (const length of [0, RAM_BANK - 1, 3 * RAM_BANK]) refused(3, () => Cartridge.restore({ ...save, ram: new Uint8Array(length) }));
+  for (const length of [0, FRAME_BYTES - 1, FRAME_BYTES + 1]) {
+    refused(4, () => Cartridge.restore({ ...save, store: new Uint8Array(length) }));
+  }
+  refused(2, () => Cartridge.restore(save, { rom: new Uint8Array(5) }));
+  for (const part of ["state", "ram", "store"]) {
+    throws(TypeError, `the save's ${part} must be`, () => Cartridge.restore({ ...save, [part]: undefined }));
+  }
+  for (const none of [undefined, null, 7, "save"]) throws(TypeError, "the save's state must be", () => Cartridge.restore(none));
+  assert.deepEqual(save, before);
+  assert.deepEqual(cartridge.save(), before);
+  cartridge.close();
+  say("saves cut short, of another size or impossible: refused by number, and nothing changed");
+}
+
+function closed() {
+  const [cartridge, other] = [begin(new Cartridge(), 5), begin(new Cartridge(), 6)];
+  cartridge.close();
+  const next = begin(new Cartridge(), 7);
+  const before = [whole(other), whole(next)];
+  cartridge.close();
+  const uses = {
+    reset: [], read: [0], write: [0xa000, 0], tick: [1], inspect: [], lend: [frame(1)], picture: [], plate: [], save: [],
+  };
+  for (const [name, words] of Object.entries(uses)) throws(Error, "the cartridge is closed", () => cartridge[name](...words));
+  throws(Error, "the cartridge is closed", () => cartridge.picture(frame(1), registers));
+  assert.deepEqual([whole(other), whole(next)], before);
+  assert.deepEqual(Object.getOwnPropertyNames(Cartridge.prototype).sort(), ["close", "constructor", ...Object.keys(uses)].sort());
+  say("every method of a closed cartridge: a clear error, and other cartridges keep their bytes");
+}
+
+theModule();
+await loading();
+calls();
+sideBySide();
+memory();
+badCalls();
+badMemory();
+badSaves();
+closed();

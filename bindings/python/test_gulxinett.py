@@ -1,0 +1,215 @@
+"""The class over the shared library: its calls, what bad input gets, and how the library is found.
+
+usage: python3 test_gulxinett.py
+"""
+
+import array
+import os
+import subprocess
+import sys
+import tempfile
+import unittest
+from pathlib import Path
+
+import gulxinett
+from gulxinett import FRAME_BYTES, PICTURE_BYTES, RAM_BANK, REGISTERS, ROM_BANK, STATE_BYTES, Cartridge, Refusal, picture
+
+TOTAL = 32_958 + 16 * 0x80
+TAKEN = bytes([3, 0, 0, 0x80, 0, 0]) + bytes(0x40 + 0x20 * (n % 3) + n for n in range(6, REGISTERS))
+
+
+def frame(number):
+    """A frame of its own for each number."""
+    return bytes((i * (7 + 2 * number) + (i >> 7)) & 255 for i in range(FRAME_BYTES))
+
+
+def begun(number):
+    """A cartridge with a capture of a frame begun; register 0, written last, is the start."""
+    cartridge = Cartridge()
+    cartridge.lend(frame(number))
+    cartridge.write(0x4000, 0x10)
+    for n in reversed(range(REGISTERS)):
+        cartridge.write(0xA000 + n, TAKEN[n])
+    return cartridge
+
+
+def whole(cartridge):
+    """What a cartridge is, all of it."""
+    return cartridge.save(), cartridge.picture()
+
+
+class Calls(unittest.TestCase):
+    def test_calls(self):
+        rom = b"\x5a" * ROM_BANK + b"\xa5" * ROM_BANK
+        with Cartridge(rom=rom, ram=b"\x01" * (2 * RAM_BANK)) as cartridge:
+            self.assertEqual((cartridge.read(0), cartridge.read(0x4000)), (0x5A, 0xA5))
+            self.assertIsNone(cartridge.inspect())
+            cartridge.write(0x4000, 0x10)
+            cartridge.write(0xA006 + 3 * 7, 1)
+            self.assertEqual(cartridge.inspect(), gulxinett.Element(row=1, column=3))
+            self.assertEqual(Cartridge.restore(cartridge.save(), rom=rom).read(0x4000), 0xA5)
+            cartridge.reset()
+            self.assertIsNone(cartridge.inspect())
+            self.assertEqual(cartridge.plate(), b"\x01" * PICTURE_BYTES)
+
+    def test_a_save_goes_on_elsewhere(self):
+        one = begun(1)
+        self.assertEqual(one.picture(), picture(frame(1), TAKEN))
+        self.assertNotEqual(one.picture(), one.picture(frame(2)))
+        self.assertEqual(one.tick(TOTAL // 2), TOTAL // 2)
+        other = Cartridge.restore(one.save())
+        self.assertEqual(other.save(), one.save())
+        for cartridge in (one, other):
+            self.assertNotEqual(cartridge.plate(), picture(frame(1), TAKEN))
+            self.assertEqual(cartridge.tick(0xFFFF_FFFF), TOTAL - TOTAL // 2)
+            self.assertEqual(cartridge.plate(), picture(frame(1), TAKEN))
+
+    def test_bytes_of_any_kind(self):
+        kinds = bytes, bytearray, memoryview, lambda value: array.array("B", value)
+        for kind in kinds:
+            self.assertEqual(picture(kind(frame(1)), kind(TAKEN)), picture(frame(1), TAKEN))
+        square = memoryview(frame(1)).cast("B", shape=(128, 128))
+        self.assertEqual(picture(square, TAKEN), picture(frame(1), TAKEN))
+
+    def test_what_is_given_is_copied(self):
+        ram = bytearray(RAM_BANK)
+        cartridge = Cartridge(ram=ram)
+        cartridge.write(0, 0x0A)
+        cartridge.write(0xA000, 7)
+        self.assertEqual((cartridge.read(0xA000), ram[0]), (7, 0))
+
+
+class BadInput(unittest.TestCase):
+    def refused(self, number, work, *words, **named):
+        with self.assertRaises(Refusal) as raised:
+            work(*words, **named)
+        self.assertEqual(raised.exception.number, number)
+        self.assertGreater(len(str(raised.exception)), 20)
+
+    def test_calls(self):
+        cartridge = begun(3)
+        cartridge.tick(20_000)
+        before = whole(cartridge)
+        self.refused(5, cartridge.read, 0x8000)
+        self.refused(5, cartridge.write, 0xC000, 1)
+        for length in (0, 1, FRAME_BYTES - 1, FRAME_BYTES + 1):
+            self.refused(4, cartridge.lend, bytes(length))
+            self.refused(4, picture, bytes(length), TAKEN)
+            self.refused(4, cartridge.picture, bytes(length))
+        for number in (-1, 0x1_0000, 1 << 70):
+            with self.assertRaisesRegex(ValueError, "the address must be a whole number from 0 to 65535"):
+                cartridge.read(number)
+            with self.assertRaisesRegex(ValueError, "the address"):
+                cartridge.write(number, 1)
+        for number in (-1, 256):
+            with self.assertRaisesRegex(ValueError, "the value"):
+                cartridge.write(0xA000, number)
+        for number in (-1, 1 << 32):
+            with self.assertRaisesRegex(ValueError, "the cycles"):
+                cartridge.tick(number)
+        for none in (None, "3", 3.0, b"\x03", [3]):
+            with self.assertRaisesRegex(TypeError, "the address must be a whole number"):
+                cartridge.read(none)
+            with self.assertRaisesRegex(TypeError, "the value must be a whole number"):
+                cartridge.write(0xA000, none)
+            with self.assertRaisesRegex(TypeError, "the cycles must be a whole number"):
+                cartridge.tick(none)
+        for none in (None, "bytes", FRAME_BYTES, [0] * FRAME_BYTES, array.array("H", bytes(FRAME_BYTES))):
+            with self.assertRaisesRegex(TypeError, "the image must be bytes"):
+                cartridge.lend(none)
+            with self.assertRaisesRegex(TypeError, "the frame must be bytes"):
+                picture(none, TAKEN)
+        for length in (0, 53, 55):
+            with self.assertRaisesRegex(ValueError, "the registers must be 54 bytes"):
+                picture(frame(1), bytes(length))
+        self.assertEqual(whole(cartridge), before)
+
+    def test_memory(self):
+        for length in (0, 1, ROM_BANK - 1, ROM_BANK + 1, 3 * ROM_BANK, 65 * ROM_BANK, 128 * ROM_BANK):
+            self.refused(2, Cartridge, rom=bytes(length))
+        for length in (0, 1, RAM_BANK - 1, RAM_BANK + 1, 3 * RAM_BANK, 17 * RAM_BANK, 32 * RAM_BANK):
+            self.refused(3, Cartridge, ram=bytes(length))
+        with self.assertRaisesRegex(TypeError, "the ROM must be bytes, not str"):
+            Cartridge(rom="rom")
+        with self.assertRaisesRegex(TypeError, "the RAM must be bytes, not int"):
+            Cartridge(ram=8192)
+
+    def test_saves(self):
+        cartridge = begun(4)
+        cartridge.tick(20_000)
+        before = cartridge.save()
+        save = before
+        for length in (0, 1, STATE_BYTES - 1):
+            self.refused(1, Cartridge.restore, save._replace(state=save.state[:length]))
+        self.refused(1, Cartridge.restore, save._replace(state=save.state + b"\0"))
+        for place, byte in ((0, 2), (1, 64), (2, 32), (3, 0), (3, 2), (7, 255), (8, 8)):
+            state = bytearray(save.state)
+            state[place] = byte
+            self.refused(1, Cartridge.restore, save._replace(state=state))
+        for length in (0, RAM_BANK - 1, 3 * RAM_BANK):
+            self.refused(3, Cartridge.restore, save._replace(ram=bytes(length)))
+        for length in (0, FRAME_BYTES - 1, FRAME_BYTES + 1):
+            self.refused(4, Cartridge.restore, save._replace(store=bytes(length)))
+        self.refused(2, Cartridge.restore, save, rom=b"short")
+        for part in save._fields:
+            with self.assertRaisesRegex(TypeError, "the save's %s must be bytes, not NoneType" % part):
+                Cartridge.restore(save._replace(**{part: None}))
+        for none in (None, 7, save[:2], ()):
+            with self.assertRaisesRegex(TypeError, "a save must have state, ram and store"):
+                Cartridge.restore(none)
+        self.assertEqual((save, cartridge.save()), (before, before))
+
+    def test_closed(self):
+        cartridge, other = begun(5), begun(6)
+        before = whole(other)
+        cartridge.close()
+        cartridge.close()
+        uses = {
+            "reset": (), "read": (0,), "write": (0xA000, 0), "tick": (1,), "inspect": (), "lend": (frame(1),),
+            "picture": (), "plate": (), "save": (),
+        }
+        for name, words in uses.items():
+            with self.assertRaisesRegex(ValueError, "the cartridge is closed"):
+                getattr(cartridge, name)(*words)
+        with self.assertRaisesRegex(ValueError, "the cartridge is closed"):
+            with cartridge:
+                pass
+        self.assertEqual(whole(other), before)
+        methods = {name for name in vars(Cartridge) if not name.startswith("_")}
+        self.assertEqual(methods, {"close", "restore", *uses})
+
+
+class Finding(unittest.TestCase):
+    def run_apart(self, folder, **environment):
+        """What a Python of its own says that imports the file from a folder and makes a cartridge."""
+        program = "import gulxinett; gulxinett.Cartridge(); print('made')"
+        kept = {name: value for name, value in os.environ.items() if name != "GULXINETT_LIB"}
+        environment = {**kept, "PYTHONDONTWRITEBYTECODE": "1", **environment}
+        return subprocess.run(
+            [sys.executable, "-c", program],
+            cwd=str(folder),
+            env=environment,
+            stdout=subprocess.PIPE,
+            stderr=subprocess.STDOUT,
+            text=True,
+        )
+
+    def test_the_repository_and_the_environment(self):
+        here = Path(gulxinett.__file__).resolve()
+        self.assertEqual(self.run_apart(here.parent).stdout, "made\n")
+        wrong = self.run_apart(here.parent, GULXINETT_LIB="/no/such/libgulxinett.so")
+        self.assertNotEqual(wrong.returncode, 0)
+        self.assertRegex(wrong.stdout, "GULXINETT_LIB names can't be loaded.*/no/such/libgulxinett.so")
+        (library,) = here.parents[2].glob("target/lib/%s/libgulxinett.so" % gulxinett._processor())
+        with tempfile.TemporaryDirectory() as folder:
+            alone = Path(folder, "a", "b", here.name)
+            alone.parent.mkdir(parents=True)
+            alone.write_bytes(here.read_bytes())
+            none = self.run_apart(alone.parent)
+            self.assertNotEqual(none.returncode, 0)
+            self.assertRegex(none.stdout, "there is no libgulxinett.so: GULXINETT_LIB is not set.*'./build native'")
+            self.assertEqual(self.run_apart(alone.parent, GULXINETT_LIB=str(library)).stdout, "made\n")
+
+
+if __name__ == "__main__":
+    unittest.main()
