@@ -31,8 +31,11 @@ static void fail(const char *reason)
 /* The value of an answer that must not be a refusal. */
 static uint32_t accepted(uint64_t answer)
 {
-    if (GULXINETT_REFUSAL(answer) != 0)
-        fail("a call was refused");
+    if (GULXINETT_REFUSAL(answer) != 0) {
+        fprintf(stderr, "preempted: a call was refused by number %u of gulxinett.h\n",
+                (unsigned)GULXINETT_REFUSAL(answer));
+        exit(1);
+    }
     return GULXINETT_VALUE(answer);
 }
 

@@ -7,8 +7,8 @@
 #![forbid(unsafe_code)]
 
 use gulxinett::{
-    picture, reset, tick, write, State, FRAME_BYTES, PICTURE_BYTES, PICTURE_OFFSET, RAM_BANK,
-    REGISTERS, STATE_BYTES,
+    picture, Cartridge, Save, FRAME_BYTES, PICTURE_BYTES, RAM_BANK, REGISTERS, ROM_BANK,
+    STATE_BYTES,
 };
 use std::error::Error;
 use std::process::ExitCode;
@@ -19,65 +19,30 @@ const HALF: u32 = TOTAL / 2;
 
 type Outcome<T> = Result<T, Box<dyn Error>>;
 
-/// What the cartridge keeps while no process runs.
-struct Cartridge {
-    state: State,
-    ram: Vec<u8>,
-    store: Vec<u8>,
+/// A cartridge from the file: state, RAM and frame store, one after the other.
+fn load(path: &str) -> Outcome<Cartridge> {
+    let saved = std::fs::read(path)?;
+    ensure(
+        saved.len() == STATE_BYTES + RAM_BANK + FRAME_BYTES,
+        "the file has another size",
+    )?;
+    let (state, memory) = saved.split_at(STATE_BYTES);
+    let (ram, store) = memory.split_at(RAM_BANK);
+    let [state, ram, store] = [state, ram, store].map(<[u8]>::to_vec);
+    Ok(Cartridge::restore(Save { state, ram, store })?)
 }
 
-impl Cartridge {
-    fn new() -> Self {
-        Cartridge {
-            state: reset(),
-            ram: vec![0; RAM_BANK],
-            store: vec![0; FRAME_BYTES],
-        }
-    }
+fn save(cartridge: &Cartridge, path: &str) -> Outcome<()> {
+    let Save { state, ram, store } = cartridge.save();
+    Ok(std::fs::write(path, [state, ram, store].concat())?)
+}
 
-    fn load(path: &str) -> Outcome<Self> {
-        let saved = std::fs::read(path)?;
-        ensure(
-            saved.len() == STATE_BYTES + RAM_BANK + FRAME_BYTES,
-            "the file has another size",
-        )?;
-        let (record, memory) = saved.split_at(STATE_BYTES);
-        let (ram, store) = memory.split_at(RAM_BANK);
-        let state = State::decode(record.try_into()?).ok_or("the file holds no state record")?;
-        Ok(Cartridge {
-            state,
-            ram: ram.to_vec(),
-            store: store.to_vec(),
-        })
+/// Writes registers 1 to 53, then register 0.
+fn write_registers(cartridge: &mut Cartridge, registers: &[u8; REGISTERS]) -> Outcome<()> {
+    for (address, value) in (TRIGGER..).zip(*registers).skip(1) {
+        cartridge.write(address, value)?;
     }
-
-    fn save(&self, path: &str) -> Outcome<()> {
-        Ok(std::fs::write(
-            path,
-            [&self.state.encode()[..], &self.ram, &self.store].concat(),
-        )?)
-    }
-
-    fn write(&mut self, image: &[u8], address: u16, value: u8) -> Outcome<()> {
-        let Cartridge { state, ram, store } = self;
-        Ok(write(state, ram, store, image, address, value)?)
-    }
-
-    /// Writes registers 1 to 53, then register 0.
-    fn write_registers(&mut self, image: &[u8], registers: &[u8; REGISTERS]) -> Outcome<()> {
-        for (address, value) in (TRIGGER..).zip(*registers).skip(1) {
-            self.write(image, address, value)?;
-        }
-        self.write(image, TRIGGER, registers[0])
-    }
-
-    fn run(&mut self, cycles: u32) -> Outcome<u32> {
-        Ok(tick(&mut self.state, &mut self.ram, &self.store, cycles)?)
-    }
-
-    fn plate(&self) -> &[u8] {
-        &self.ram[PICTURE_OFFSET..PICTURE_OFFSET + PICTURE_BYTES]
-    }
+    Ok(cartridge.write(TRIGGER, registers[0])?)
 }
 
 /// The first scene: rings of light around a corner.
@@ -121,33 +86,35 @@ fn ensure(holds: bool, otherwise: &str) -> Outcome<()> {
 }
 
 fn begin(path: &str) -> Outcome<()> {
-    let mut cartridge = Cartridge::new();
-    let (image, registers) = (first_image(), first_registers());
-    cartridge.write(&image, 0x4000, 0x10)?;
-    cartridge.write_registers(&image, &registers)?;
+    let mut cartridge = Cartridge::new(vec![0xFF; ROM_BANK], vec![0; RAM_BANK])?;
+    let registers = first_registers();
+    cartridge.lend(&first_image())?;
+    cartridge.write(0x4000, 0x10)?;
+    write_registers(&mut cartridge, &registers)?;
     ensure(
-        cartridge.run(HALF)? == HALF,
+        cartridge.tick(HALF)? == HALF,
         "the capture did not run half way",
     )?;
-    cartridge.write(&image, TRIGGER, registers[0] & 6)?;
-    ensure(cartridge.run(1_000_000)? == 0, "a stopped capture ran on")?;
-    cartridge.save(path)?;
+    cartridge.write(TRIGGER, registers[0] & 6)?;
+    ensure(cartridge.tick(1_000_000)? == 0, "a stopped capture ran on")?;
+    save(&cartridge, path)?;
     println!("begin: a capture ran {HALF} of {TOTAL} cycles and was stopped");
     println!("begin: state, RAM and frame store saved");
     Ok(())
 }
 
 fn finish(path: &str) -> Outcome<()> {
-    let mut cartridge = Cartridge::load(path)?;
+    let mut cartridge = load(path)?;
     let wanted = picture(&first_image(), &first_registers())?;
     ensure(
         cartridge.plate() != wanted,
         "the picture was whole before the capture ended",
     )?;
     let (image, registers) = (second_image(), second_registers());
-    cartridge.write_registers(&image, &registers)?;
+    cartridge.lend(&image)?;
+    write_registers(&mut cartridge, &registers)?;
     println!("finish: resumed with another image and other registers");
-    let cycles = cartridge.run(u32::MAX)?;
+    let cycles = cartridge.tick(u32::MAX)?;
     println!("finish: the capture ended after {cycles} more cycles");
     ensure(
         cycles == TOTAL - HALF,
