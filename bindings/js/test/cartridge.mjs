@@ -52,6 +52,17 @@ function theModule() {
   say(`the module: ${bytes.length} bytes, no imports, ${functions.length} functions`);
 }
 
+/** The types name what there is: the exported names and the methods, no more and no fewer. */
+function types() {
+  const text = readFileSync(new URL("../gulxinett.d.ts", import.meta.url), "utf8");
+  const names = (pattern, within) => Array.from(within.matchAll(pattern), ([, name]) => name).sort();
+  assert.deepEqual(names(/^export (?:const|class|function) (\w+)/gm, text), Object.keys(gulxinett).sort());
+  const body = /^export interface Cartridge \{$(.*?)^\}$/ms.exec(text)[1];
+  const methods = Object.getOwnPropertyNames(Cartridge.prototype).filter((name) => name !== "constructor");
+  assert.deepEqual(names(/^  (\w+)\(/gm, body), methods.sort());
+  say(`the types name the ${methods.length} methods and ${Object.keys(gulxinett).length} exports there are`);
+}
+
 async function loading() {
   const server = createServer((request, response) => {
     response.statusCode = request.url === "/gulxinett.wasm" ? 200 : 404;
@@ -252,6 +263,7 @@ function closed() {
 }
 
 theModule();
+types();
 await loading();
 calls();
 sideBySide();
