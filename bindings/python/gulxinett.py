@@ -61,6 +61,10 @@ class Refusal(Exception):
         super().__init__(_SENTENCES.get(number, "refusal %d" % number))
         self.number = number
 
+    def __reduce__(self):
+        # so that a worker's refusal reaches the process that started it
+        return Refusal, (self.number,)
+
 
 class Save(NamedTuple):
     """All that a cartridge needs to go on elsewhere; the ROM is brought by whoever goes on."""

@@ -5,6 +5,7 @@ usage: python3 test_gulxinett.py
 
 import array
 import os
+import pickle
 import subprocess
 import sys
 import tempfile
@@ -123,6 +124,10 @@ class BadInput(unittest.TestCase):
             with self.assertRaisesRegex(ValueError, "the registers must be 54 bytes"):
                 picture(frame(1), bytes(length))
         self.assertEqual(whole(cartridge), before)
+
+    def test_a_refusal_of_another_process(self):
+        passed = pickle.loads(pickle.dumps(Refusal(3)))
+        self.assertEqual((passed.number, str(passed)), (3, str(Refusal(3))))
 
     def test_memory(self):
         for length in (0, 1, ROM_BANK - 1, ROM_BANK + 1, 3 * ROM_BANK, 65 * ROM_BANK, 128 * ROM_BANK):

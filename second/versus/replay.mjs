@@ -32,7 +32,7 @@ class Steps {
 
   take(count) {
     while (this.#held.length < count) {
-      const read = readSync(this.file, this.#piece);
+      const read = readSync(this.file, this.#piece, 0, this.#piece.length, null);
       if (read === 0) throw new Error("the answers end in the middle");
       this.#held = Buffer.concat([this.#held, this.#piece.subarray(0, read)]);
     }
