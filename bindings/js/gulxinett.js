@@ -39,8 +39,11 @@ export class Refusal extends Error {
   }
 }
 
+/** The module beside this file, where './build wasm' of the repository puts it. */
+const BESIDE = new URL("gulxinett.wasm", import.meta.url);
+
 /** Compiles the module, from bytes or from where it lies, and gives what is called on it. */
-export async function load(source = new URL("gulxinett.wasm", import.meta.url)) {
+export async function load(source = BESIDE) {
   const module = source instanceof WebAssembly.Module ? source : await WebAssembly.compile(await fetched(source));
   const { exports } = await WebAssembly.instantiate(module);
   return bound(exports);
@@ -50,12 +53,23 @@ export async function load(source = new URL("gulxinett.wasm", import.meta.url)) 
 async function fetched(source) {
   if (typeof source !== "string" && !(source instanceof URL)) return bytesOf("the module", source);
   const inNode = globalThis.process?.versions?.node !== undefined;
-  if (inNode && !/^(https?|data|blob):/i.test(source)) {
-    const { readFile } = await import("node:fs/promises");
-    return readFile(/^file:/i.test(source) ? new URL(source) : source);
+  const isFile = inNode && !/^(https?|data|blob):/i.test(source);
+  try {
+    return isFile ? await readFile(source) : await download(source);
+  } catch (reason) {
+    const hint = source === BESIDE ? "; './build wasm' of the repository puts it there" : "";
+    throw new Error(`the module can't be had from ${source}: ${reason.message}${hint}`);
   }
+}
+
+async function readFile(source) {
+  const files = await import("node:fs/promises");
+  return files.readFile(/^file:/i.test(source) ? new URL(source) : source);
+}
+
+async function download(source) {
   const answer = await fetch(source);
-  if (!answer.ok) throw new Error(`the module can't be had from ${source}: ${answer.status} ${answer.statusText}`);
+  if (!answer.ok) throw new Error(`${answer.status} ${answer.statusText}`);
   return answer.arrayBuffer();
 }
 

@@ -87,7 +87,7 @@ async function loading() {
     assert.equal(new (await load(source)).Cartridge().read(0), 0xff, name);
   }
   await assert.rejects(load(`${site}/other.wasm`), /other\.wasm: 404/);
-  await assert.rejects(load("no/such/module.wasm"), /no such file/);
+  await assert.rejects(load("no/such/module.wasm"), /module can't be had from no\/such\/module.wasm: .*no such file/);
   await assert.rejects(load(7), /must be a Uint8Array or an ArrayBuffer, not Number/);
   await assert.rejects(load(new Uint8Array(8)), WebAssembly.CompileError);
   server.close();
