@@ -169,6 +169,33 @@ function memory() {
   say(`a hundred rounds of memory in ${most} bytes; what has no room takes none`);
 }
 
+/** Cartridges that were closed or refused, and pictures, leave no memory behind. */
+async function nothingLost() {
+  const { instantiate } = WebAssembly;
+  let memory;
+  WebAssembly.instantiate = async (module) => {
+    const instance = await instantiate(module);
+    memory = instance.exports.memory;
+    return instance;
+  };
+  const { Cartridge, picture } = await load();
+  WebAssembly.instantiate = instantiate;
+  const save = new Cartridge().save();
+  const [good, bad] = [new Uint8Array(2 * ROM_BANK), new Uint8Array(3 * ROM_BANK)];
+  let most = 0;
+  for (let round = 0; round < 200; round++) {
+    new Cartridge({ rom: good }).close();
+    refused(2, () => new Cartridge({ rom: bad }));
+    refused(4, () => Cartridge.restore({ ...save, store: bad }));
+    throws(TypeError, "the save's ram", () => Cartridge.restore({ ...save, ram: [] }));
+    picture(save.store, registers);
+    refused(4, () => picture(bad, registers));
+    if (round === 0) most = memory.buffer.byteLength;
+  }
+  assert.equal(memory.buffer.byteLength, most);
+  say(`200 rounds of cartridges closed or refused and pictures drawn or refused, in ${most} bytes of memory`);
+}
+
 function badCalls() {
   const cartridge = begin(new Cartridge(), 3);
   cartridge.tick(20_000);
@@ -268,6 +295,7 @@ await loading();
 calls();
 sideBySide();
 memory();
+await nothingLost();
 badCalls();
 badMemory();
 badSaves();
