@@ -10,11 +10,11 @@ use lib.Seq.{drop-cons, length-take-le}
 use borrow.Author.Tests.{eq-eqb, ne-eqb, lt-ltb, le-ltb}
 use Rattle.laws.proofs.Order.{split}
 use Rattle.script.specs.declared.text.Reader.{Reader}
-use Rattle.script.specs.Answer.{placed}
+use Rattle.lines.specs.Hex.{placed}
 use Rattle.script.specs.Session.{World, step, stepOf}
 use Rattle.script.specs.Said.{Printed}
 use Rattle.script.specs.Pieces.{Reading, Feeding, feeding, lineEnded, lineKept, countKept, byteKept, byteRead, fed, opened, feedMeans, lastLine, finishMeans}
-use Rattle.script.proofs.Placed.{placed-none, placed-next, take-placed}
+use Rattle.lines.proofs.Placed.{placed-none, placed-next, take-placed}
 
 abbrev pub reading : World → List ℕ → ℕ → List ℕ → ℕ → Reading
 reading w line held text used = record { world = w; line = line; held = held; text = text; used = used }

@@ -11,11 +11,12 @@ use Rattle.controller.specs.declared.Refusal.the-variants as refusals
 use Rattle.controller.specs.State.{resetState}
 use Rattle.controller.specs.Outcome.{numberOf}
 use Rattle.controller.specs.Calls.{readMeans, writeMeans, tickMeans}
-use Rattle.script.specs.declared.line.Frame.{Frame}
-use Rattle.script.specs.declared.line.Frame.the-variants.{Reset, Read, Write, Tick, Row, Malformed}
+use Rattle.lines.specs.declared.line.Frame.{Frame}
+use Rattle.lines.specs.declared.line.Frame.the-variants.{Reset, Read, Write, Tick, Row, Malformed}
 use Rattle.script.specs.declared.session.Obeyed.{Obeyed}
-use Rattle.script.specs.Line.{numberAt, frameOf}
-use Rattle.script.specs.Answer.{answerText, textOf, placed}
+use Rattle.lines.specs.Line.{numberAt, frameOf}
+use Rattle.lines.specs.Hex.{placed}
+use Rattle.script.specs.Answer.{answerText, textOf}
 use Rattle.script.specs.Session.{World, Step, world, step, rowTaken, rowImage, rowText, frameStep, stepOf}
 use Rattle.script.specs.Said.{Obeys, Printed, Saying, saying}
 

@@ -4,7 +4,8 @@ use Prim.Native.Nat.{ℕ}
 use Rattle.controller.specs.declared.Refusal.{Refusal}
 use Rattle.controller.specs.declared.Refusal.the-variants.{State, Rom, Ram, Frame, Address, Line}
 use Rattle.controller.specs.Outcome.{numberOf}
-use Rattle.script.specs.Answer.{answerText, printed}
+use Rattle.lines.specs.Hex.{printed}
+use Rattle.script.specs.Answer.{answerText}
 
 -- a refusal prints its number alone
 pub refused-text : (n : Refusal) (digits value : ℕ) → answerText (numberOf n) digits value ≡ printed (numberOf n) 0 value

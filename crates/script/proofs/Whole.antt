@@ -15,14 +15,14 @@ use Rattle.laws.proofs.Order.{split}
 use Rattle.controller.specs.declared.Refusal.the-variants as refusals
 use Rattle.controller.specs.Outcome.{numberOf}
 use Rattle.script.specs.declared.text.Reader.{Reader}
-use Rattle.script.specs.declared.line.Frame.the-variants.{Malformed}
-use Rattle.script.specs.Line.{frameOf}
+use Rattle.lines.specs.declared.line.Frame.the-variants.{Malformed}
+use Rattle.lines.specs.Line.{frameOf}
 use Rattle.script.specs.Answer.{answerText}
 use Rattle.script.specs.Session.{World, Step, step, refused, frameStep, stepOf}
 use Rattle.script.specs.Text.{begins, linesOf, after, played, sessionOf}
 use Rattle.script.specs.Pieces.{Reading, lineEnded, lineKept, countKept, byteKept, byteRead, readAll, noRoom, fed, newReader, opened, lastLine, finishMeans, readerOf, inPieces, joined}
-use Rattle.script.proofs.Digits.{and-false}
-use Rattle.script.proofs.Frames.{too-long}
+use Rattle.lines.proofs.Digits.{and-false}
+use Rattle.lines.proofs.Frames.{too-long}
 use Rattle.script.proofs.Feeds.{reading}
 
 cases {ℓ} : {X : Type ℓ} (t : Bool) → (t ≡ true → X) → (t ≡ false → X) → X

@@ -1,5 +1,4 @@
 -- The meaning of the bus script.
-pub mod Line
 pub mod Answer
 pub mod Session
 pub mod Said

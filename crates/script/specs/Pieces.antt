@@ -7,7 +7,7 @@ use lib.ListN.{length, take, set, replicate}
 use Rattle.laws.specs.Pick.{pick}
 use Rattle.script.specs.declared.text.Reader.{Reader}
 use Rattle.script.specs.declared.text.Fed.{Fed}
-use Rattle.script.specs.Answer.{placed}
+use Rattle.lines.specs.Hex.{placed}
 use Rattle.script.specs.Session.{World, Step, world, step, stepOf}
 use Rattle.script.specs.Text.{after}
 

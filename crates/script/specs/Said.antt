@@ -6,7 +6,8 @@ use lib.ListN.{length, replicate}
 use Rattle.controller.specs.Outcome.{Outcome}
 use Rattle.script.specs.declared.session.Obeyed.{Obeyed}
 use Rattle.script.specs.declared.session.Stepped.{Stepped}
-use Rattle.script.specs.Answer.{answerText, textOf, placed}
+use Rattle.lines.specs.Hex.{placed}
+use Rattle.script.specs.Answer.{answerText, textOf}
 use Rattle.script.specs.Session.{World, Step, world}
 
 -- a call's outcome, with its value in so many digits

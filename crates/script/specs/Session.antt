@@ -10,9 +10,9 @@ use Rattle.controller.specs.Lent.{frameAllowed}
 use Rattle.controller.specs.State.{resetState}
 use Rattle.controller.specs.Outcome.{Outcome, numberOf}
 use Rattle.controller.specs.Calls.{readMeans, writeMeans, tickMeans}
-use Rattle.script.specs.declared.line.Frame.{Frame}
-use Rattle.script.specs.declared.line.Frame.the-variants.{Reset, Read, Write, Tick, Row, Malformed}
-use Rattle.script.specs.Line.{numberAt, frameOf}
+use Rattle.lines.specs.declared.line.Frame.{Frame}
+use Rattle.lines.specs.declared.line.Frame.the-variants.{Reset, Read, Write, Tick, Row, Malformed}
+use Rattle.lines.specs.Line.{numberAt, frameOf}
 use Rattle.script.specs.Answer.{answerText}
 
 -- what a session changes: the state, the RAM, the frame store and the image

@@ -1,15 +1,14 @@
 // One step of a session: a line is carried out and answered.
 use super::answer::Answer;
 use super::answer::put_answer;
-use super::line::Frame;
-use super::line::Number;
-use super::line::frame_of;
-use super::reader::read_number;
 use controller::Controller;
 use controller::ReadAnswer;
 use controller::Refusal;
 use controller::TickAnswer;
 use controller::WriteAnswer;
+use lines::line::Frame;
+use lines::line::byte_at;
+use lines::line::frame_of;
 ghost use mathlib.Core.Path.{_≡_};
 ghost use mathlib.Core.Bool.{true};
 ghost use mathlib.Core.List.{[]};
@@ -17,7 +16,7 @@ ghost use Prim.Native.Nat.{_+_, _*_, _≤_, _<_};
 ghost use lib.ListN.{length};
 ghost use Rattle.controller.specs.Outcome.{numberOf, readNumber, readValue, writeNumber, tickNumber, tickValue};
 ghost use Rattle.controller.specs.Calls.{readMeans, writeMeans, tickMeans};
-ghost use Rattle.script.specs.Line.{hexPart, numberAt, frameOf};
+ghost use Rattle.lines.specs.Line.{hexPart, frameOf};
 ghost use Rattle.script.specs.Answer.{answerText, textOf};
 ghost use Rattle.script.specs.Session.{world, step, rowTaken, rowImage, rowText, stepOf};
 ghost use Rattle.script.specs.Said.{Obeys, Printed, said, saying};
@@ -86,18 +85,6 @@ fn tick_answer(r: TickAnswer) -> Answer
         },
         TickAnswer::Refused(n) => refused(n),
     }
-}
-
-// The byte that two digits of a line spell.
-fn byte_at(line: &[u8], at: usize) -> u8
-    requires { ⌜ (at + 2 ≤ length (now line)) × (hexPart (now line) at 2 ≡ true) ⌝ }
-    ensures { λ r. ⌜ r ≡ numberAt (now (line .entry)) at 2 ⌝ }
-{
-    let byte = read_number(line, at, 2);
-    let Number::Value(b) = byte else {
-        return 0;
-    };
-    b as u8
 }
 
 // Takes the 128 bytes of row y from a line.

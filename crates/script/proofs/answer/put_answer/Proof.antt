@@ -1,38 +1,14 @@
--- `script::answer::put_answer` meets its contract: number, value and LF are put one after another. Assumes nothing.
-use mathlib.Core.Path.{ap, _∙_}
-use mathlib.Core.List.{[], _∷_}
-use Prim.Native.Nat.{_+_}
+-- `script::answer::put_answer` meets its contract: an answer is a line of its own. Assumes nothing.
 use native.Mathlib.Omega.{arith}
-use lib.ListN.{length-set}
 use borrow.Author.Needs.{needs}
-use Rattle.script.specs.Answer.{placed, hexText}
-use Rattle.script.proofs.Placed.{placed-one, placed-printed, length-printed}
+use Rattle.lines.proofs.Placed.{length-printed}
 use Rattle.script.proofs.answer.put_answer.Statement.{statement}
 use Rattle.script.proofs.answer.put_answer.Tie as tie
 
 returns : tie.Need-returns
 returns c =
-    let a = c .before .before .before .before .before .before .before .before .before .args in
-    let one = c .before .before .before .before .before .before .put-digits in
-    let two = c .before .before .put-digits2 in
-    let end = a .at + 2 + a .a .digits in (
-      placed-one (two .last .0) end 10 (omega arith)
-          ∙ ap (λ o. placed o end (10 ∷ [])) (two .ensures ∙ ap (λ o. placed o (a .at + 2) (hexText (a .a .digits) (a .a .value))) (one .ensures))
-          ∙ placed-printed (a .out .now) (a .at) (a .a .number) (a .a .digits) (a .a .value) (omega arith),
-      omega (arith, length-printed (a .a .number) (a .a .digits) (a .a .value)),
-      omega arith,
-    )
+    let a = c .before .before .before .before .before .args .a in
+    (c .before .before .put-line .ensures .0, omega (arith, length-printed (a .number) (a .digits) (a .value)), omega arith)
 
 pub put-answer-spec : {M : Type 1} → statement M
-put-answer-spec =
-    tie.close
-    (tie.spec
-    (λ c κs. search needs)
-    (λ c. search needs)
-    (λ c κs. search needs)
-    (λ c. search needs)
-    (λ c. search needs)
-    (λ c. search needs)
-    (λ c. search needs)
-    (λ c. simp length-set (c .before .before .put-digits2 .kept .0 ∙ c .before .before .before .before .before .before .put-digits .kept .0))
-    returns)
+put-answer-spec = tie.close (tie.spec (λ c κs. search needs) (λ c. search needs) returns)

@@ -5,7 +5,7 @@ use lib.ListN.{length}
 use borrow.Author.Tests.{eq-eqb, ne-eqb}
 use borrow.Author.Needs.{needs}
 use Rattle.script.specs.Session.{rowImage, rowText}
-use Rattle.script.proofs.Frames.{row-facts}
+use Rattle.lines.proofs.Frames.{row-facts}
 use Rattle.script.proofs.session.do_row.Statement.{statement}
 use Rattle.script.proofs.session.do_row.Tie as tie
 

@@ -3,7 +3,7 @@ use mathlib.Core.Path.{ap, _∙_}
 use Prim.Native.Nat.{_+_}
 use lib.ListN.{length}
 use borrow.Author.Needs.{needs}
-use Rattle.script.specs.Answer.{placed}
+use Rattle.lines.specs.Hex.{placed}
 use Rattle.script.proofs.session.line_done.Statement.{statement}
 use Rattle.script.proofs.session.line_done.Tie as tie
 

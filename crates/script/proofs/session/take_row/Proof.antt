@@ -3,9 +3,9 @@ use mathlib.Core.Path.{_≡_, refl, sym, ap, _∙_}
 use Prim.Native.Nat.{_≤_, _+_, _-_, _*_}
 use native.Mathlib.Omega.{arith}
 use lib.ListN.{length, set, length-set}
-use Rattle.script.specs.Line.{numberAt}
+use Rattle.lines.specs.Line.{numberAt}
 use Rattle.script.specs.Session.{rowTaken}
-use Rattle.script.proofs.Digits.{hex-within}
+use Rattle.lines.proofs.Digits.{hex-within}
 use Rattle.script.proofs.Steps.{row-more}
 use Rattle.script.proofs.session.take_row.Statement.{statement}
 use Rattle.script.proofs.session.take_row.Tie as tie

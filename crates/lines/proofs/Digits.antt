@@ -1,0 +1,163 @@
+-- Digits and the numbers that they spell: laws of `digitOf`, `hexPart`, `numberAt` and `numberOf`. Assumes nothing.
+use mathlib.Core.Path.{_≡_, refl, sym, ap, _∙_}
+use mathlib.Core.Bool.{Bool, true, false, _&&_}
+use mathlib.Core.List.{List}
+use Prim.Native.Nat.{ℕ, zero, suc, _+_, _-_, _*_, _^_, _<_, _≤_}
+use native.Mathlib.Nat.{pow-suc, add-zero, add-suc, add-assoc, zero-add, pow-le-pow-right}
+use native.Mathlib.Numerals.{add-one}
+use native.Mathlib.Omega.{arith}
+use lib.ListN.{getD}
+use lib.Dec.{leb, lit<}
+use borrow.Author.Tests.{le-leb, lt-leb, leb-true}
+use Rattle.laws.specs.Pick.{pick}
+use Rattle.laws.proofs.Order.{split}
+use Rattle.lines.specs.declared.line.Digit.{Digit}
+use Rattle.lines.specs.declared.line.Digit.the-variants as digits
+use Rattle.lines.specs.declared.line.Number.{Number}
+use Rattle.lines.specs.declared.line.Number.the-variants as numbers
+use Rattle.lines.specs.Line.{isHex, worth, digitOf, hexPart, numberAt, numberOf}
+
+-- a conjunction that holds, and its halves
+pub both : (a b : Bool) → a ≡ true → b ≡ true → (a && b) ≡ true
+both a b p q = simp (p, q)
+
+pub clash : _≡_ {A = Bool} false true → ⊥
+clash e = let n : _≡_ {A = ℕ} 0 1 = cc in omega arith
+
+pub first-half : (a b : Bool) → (a && b) ≡ true → a ≡ true
+first-half true b h = refl
+first-half false b h = h
+
+pub second-half : (a b : Bool) → (a && b) ≡ true → b ≡ true
+second-half true b h = h
+second-half false b h = absurd (clash h)
+
+and-true : (a : Bool) → (a && true) ≡ a
+and-true true = refl
+and-true false = refl
+
+pub and-false : (a : Bool) → (a && false) ≡ false
+and-false true = refl
+and-false false = refl
+
+and-assoc : (a b d : Bool) → ((a && b) && d) ≡ (a && (b && d))
+and-assoc true b d = refl
+and-assoc false b d = refl
+
+-- an answer that is a value was picked by a test that held
+pub digit-is : (t : Bool) (v d : ℕ) → pick t (digits.Value v) digits.NotHex ≡ digits.Value d → (t ≡ true) × (d ≡ v)
+digit-is true v d e = (refl, cc)
+digit-is false v d e = absurd (let n : _≡_ {A = ℕ} 0 1 = cc in omega arith)
+
+pub digit-isnt : (t : Bool) (v : ℕ) → pick t (digits.Value v) digits.NotHex ≡ digits.NotHex → t ≡ false
+digit-isnt true v e = absurd (let n : _≡_ {A = ℕ} 0 1 = cc in omega arith)
+digit-isnt false v e = refl
+
+pub number-is : (t : Bool) (v d : ℕ) → pick t (numbers.Value v) numbers.NotHex ≡ numbers.Value d → (t ≡ true) × (d ≡ v)
+number-is true v d e = (refl, cc)
+number-is false v d e = absurd (let n : _≡_ {A = ℕ} 0 1 = cc in omega arith)
+
+pub number-isnt : (t : Bool) (v : ℕ) → pick t (numbers.Value v) numbers.NotHex ≡ numbers.NotHex → t ≡ false
+number-isnt true v e = absurd (let n : _≡_ {A = ℕ} 0 1 = cc in omega arith)
+number-isnt false v e = refl
+
+-- past 39h a digit is a letter
+above : (b : ℕ) → 0x39 < b → isHex b ≡ (leb 0x41 b && leb b 0x46)
+above b h = simp (le-leb 0x30 b (omega arith), lt-leb b 0x39 h)
+
+-- a digit is worth less than sixteen
+pub worth-small : (b : ℕ) → isHex b ≡ true → worth b < 16
+worth-small b h =
+    split 0x39 b
+    (λ l. let m : b ≤ 0x46 = leb-true b 0x46 (second-half (leb 0x41 b) (leb b 0x46) (sym (above b l) ∙ h)) in simp (lt-leb b 0x39 l) (omega arith))
+    (λ l. simp (le-leb b 0x39 l) (omega arith))
+
+-- one digit more
+pub hex-more : (line : List ℕ) (at n : ℕ) → hexPart line at (n + 1) ≡ (hexPart line at n && isHex (getD line (at + n) 0))
+unfolding hexPart
+hex-more line at n = simp add-one
+
+pub number-more : (line : List ℕ) (at n : ℕ) → numberAt line at (n + 1) ≡ numberAt line at n * 16 + worth (getD line (at + n) 0)
+unfolding numberAt
+number-more line at n = simp add-one
+
+-- n digits are worth less than sixteen to the n
+pub number-small : (line : List ℕ) (at n : ℕ) → hexPart line at n ≡ true → numberAt line at n < 16 ^ n
+unfolding hexPart numberAt
+number-small line at zero h = lit< tt
+number-small line at (suc n) h =
+    let d = getD line (at + n) 0 in
+    let s : numberAt line at n < 16 ^ n = number-small line at n (first-half (hexPart line at n) (isHex d) h) in
+    let w : worth d < 16 = worth-small d (second-half (hexPart line at n) (isHex d) h) in
+    rw pow-suc (omega arith)
+
+-- a part that begins with bytes that are no digits is none
+pub hex-fails : (line : List ℕ) (at n m : ℕ) → hexPart line at n ≡ false → hexPart line at (n + m) ≡ false
+unfolding hexPart
+hex-fails line at n zero h = simp add-zero h
+hex-fails line at n (suc m) h = simp (add-suc, hex-fails line at n m h)
+
+-- a part is its front and its back
+pub hex-parts : (line : List ℕ) (at n m : ℕ) → hexPart line at (n + m) ≡ (hexPart line at n && hexPart line (at + n) m)
+unfolding hexPart
+hex-parts line at n zero = simp add-zero (sym (and-true (hexPart line at n)))
+hex-parts line at n (suc m) = simp (add-suc, hex-parts line at n m, add-assoc) (and-assoc (hexPart line at n) (hexPart line (at + n) m) (isHex (getD line (at + (n + m)) 0)))
+
+pub hex-joined : (line : List ℕ) (at n m : ℕ) → hexPart line at n ≡ true → hexPart line (at + n) m ≡ true → hexPart line at (n + m) ≡ true
+hex-joined line at n m p q = hex-parts line at n m ∙ simp (p, q)
+
+pub hex-broken : (line : List ℕ) (at n m : ℕ) → hexPart line at n ≡ true → hexPart line (at + n) m ≡ false → hexPart line at (n + m) ≡ false
+hex-broken line at n m p q = hex-parts line at n m ∙ simp (p, q)
+
+-- what a number that was read, or was not, tells of the line
+pub none-of : (line : List ℕ) (at n : ℕ) (r : Number) → r ≡ numberOf line at n → r ≡ numbers.NotHex → hexPart line at n ≡ false
+unfolding numberOf
+none-of line at n r e f = number-isnt (hexPart line at n) (numberAt line at n) (sym e ∙ f)
+
+pub record Spells (line : List ℕ) (at n v : ℕ) : Type 0 where
+  pub hex : hexPart line at n ≡ true
+  pub is : v ≡ numberAt line at n
+  pub small : v < 16 ^ n
+
+pub some-of : (line : List ℕ) (at n : ℕ) (r : Number) (v : ℕ) → r ≡ numberOf line at n → r ≡ numbers.Value v → Spells line at n v
+unfolding numberOf
+some-of line at n r v e f =
+    let s = number-is (hexPart line at n) (numberAt line at n) v (sym e ∙ f) in
+    record { hex = s .0; is = s .1; small = rw (s .1) (number-small line at n (s .0)) }
+
+-- what a byte that was taken for a digit tells
+pub some-digit : (b : ℕ) (r : Digit) (d : ℕ) → r ≡ digitOf b → r ≡ digits.Value d → (isHex b ≡ true) × (d ≡ worth b) × (d < 16)
+unfolding digitOf
+some-digit b r d e f =
+    let s = digit-is (isHex b) (worth b) d (sym e ∙ f) in
+    (s .0, s .1, rw (s .1) (worth-small b (s .0)))
+
+pub no-digit : (b : ℕ) (r : Digit) → r ≡ digitOf b → r ≡ digits.NotHex → isHex b ≡ false
+unfolding digitOf
+no-digit b r e f = digit-isnt (isHex b) (worth b) (sym e ∙ f)
+
+-- a part with a byte that is no digit is none
+pub hex-stops : (line : List ℕ) (at i n : ℕ) → i < n → isHex (getD line (at + i) 0) ≡ false → hexPart line at n ≡ false
+hex-stops line at i n l h =
+    let e : n ≡ (i + 1) + (n - (i + 1)) = omega arith in
+    ap (hexPart line at) e ∙ hex-fails line at (i + 1) (n - (i + 1)) (hex-more line at i ∙ simp (h, and-false))
+
+pub number-none : (line : List ℕ) (at n : ℕ) → hexPart line at n ≡ false → numberOf line at n ≡ numbers.NotHex
+unfolding numberOf
+number-none line at n h = simp h
+
+pub number-some : (line : List ℕ) (at n : ℕ) → hexPart line at n ≡ true → numberOf line at n ≡ numbers.Value (numberAt line at n)
+unfolding numberOf
+number-some line at n h = simp h
+
+-- fewer than eight digits leave room for one more
+pub room : (v i : ℕ) → v < 16 ^ i → i < 8 → v < 268435456
+room v i h l = omega (arith, pow-le-pow-right {n = 16} (lit< tt) {i = i} {j = 7} (omega arith))
+
+-- a part of digits is digits
+pub hex-within : (line : List ℕ) (n k m : ℕ) → hexPart line 0 n ≡ true → k + m ≤ n → hexPart line k m ≡ true
+hex-within line n k m h l =
+    let e : n ≡ k + (m + (n - k - m)) = omega arith in
+    let back = second-half (hexPart line 0 k) (hexPart line (0 + k) (m + (n - k - m))) (sym (hex-parts line 0 k (m + (n - k - m))) ∙ ap (hexPart line 0) (sym e) ∙ h) in
+    let from : hexPart line k (m + (n - k - m)) ≡ true = rw zero-add at back in
+    first-half (hexPart line k m) (hexPart line (k + m) (n - k - m)) (sym (hex-parts line k m (n - k - m)) ∙ from)

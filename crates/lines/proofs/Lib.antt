@@ -1,0 +1,5 @@
+-- Laws of a line and of its digits.
+pub mod Digits
+pub mod Frames
+pub mod Placed
+pub mod Accepted

@@ -1,0 +1,3 @@
+-- The meaning of one line of the bus script.
+pub mod Line
+pub mod Hex

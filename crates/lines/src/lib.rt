@@ -1,0 +1,4 @@
+// One line of the bus script: its digits, the reader, and the frame that it says.
+pub mod hex;
+pub mod line;
+pub mod reader;

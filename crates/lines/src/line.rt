@@ -1,0 +1,195 @@
+// A script line, without its LF, to the frame that it says.
+use super::reader::read_number;
+ghost use mathlib.Core.Path.{_≡_};
+ghost use mathlib.Core.Bool.{true};
+ghost use Prim.Native.Nat.{ℕ, _+_, _≤_, _<_};
+ghost use lib.ListN.{length};
+ghost use Rattle.lines.specs.Line.{digitOf, hexPart, numberAt, numberOf, frameOf};
+
+// A byte as an upper-case hexadecimal digit.
+pub enum Digit {
+    Value(u8),
+    NotHex,
+}
+
+// The number that some digits spell.
+pub enum Number {
+    Value(u32),
+    NotHex,
+}
+
+// One frame a line. A row's bytes stay in the line.
+pub enum Frame {
+    Reset,
+    Read(u16),
+    Write(u16, u8),
+    Tick(u32),
+    Row(u8),
+    Malformed,
+}
+
+pub fn digit_of(b: u8) -> Digit
+    ensures { λ r. ⌜ r ≡ digitOf b ⌝ }
+{
+    if b < 48 {
+        return Digit::NotHex;
+    }
+    if b <= 57 {
+        return Digit::Value(b - 48);
+    }
+    if b < 65 {
+        return Digit::NotHex;
+    }
+    if b <= 70 {
+        return Digit::Value(b - 55);
+    }
+    Digit::NotHex
+}
+
+// The number that n digits of a line, from `at` on, spell: at most eight. The line reader calls it at its place.
+pub(crate) fn number_at(line: &[u8], at: usize, n: usize) -> Number
+    requires { ⌜ (at + n ≤ length (now line)) × (n ≤ 8) ⌝ }
+    ensures { λ r. ⌜ r ≡ numberOf (now (line .entry)) at n ⌝ }
+{
+    let mut v: u32 = 0;
+    let mut i = 0;
+    while i < n {
+        let b = line[at + i];
+        let Digit::Value(d) = digit_of(b) else {
+            return Number::NotHex;
+        };
+        v = v * 16 + d as u32;
+        i += 1;
+    }
+    Number::Value(v)
+}
+
+// `00` reset.
+fn reset_line(line: &[u8]) -> Frame
+    requires { ⌜ (hexPart (now line) 0 2 ≡ true) × (numberAt (now line) 0 2 ≡ 0) ⌝ }
+    ensures { λ r. ⌜ r ≡ frameOf (now (line .entry)) ⌝ }
+{
+    if line.len() != 2 {
+        return Frame::Malformed;
+    }
+    Frame::Reset
+}
+
+// `01` four-digit address.
+fn read_line(line: &[u8]) -> Frame
+    requires { ⌜ (hexPart (now line) 0 2 ≡ true) × (numberAt (now line) 0 2 ≡ 1) ⌝ }
+    ensures { λ r. ⌜ r ≡ frameOf (now (line .entry)) ⌝ }
+{
+    if line.len() != 6 {
+        return Frame::Malformed;
+    }
+    let address = read_number(line, 2, 4);
+    let Number::Value(a) = address else {
+        return Frame::Malformed;
+    };
+    Frame::Read(a as u16)
+}
+
+// `02` four-digit address, byte.
+fn write_line(line: &[u8]) -> Frame
+    requires { ⌜ (hexPart (now line) 0 2 ≡ true) × (numberAt (now line) 0 2 ≡ 2) ⌝ }
+    ensures { λ r. ⌜ r ≡ frameOf (now (line .entry)) ⌝ }
+{
+    if line.len() != 8 {
+        return Frame::Malformed;
+    }
+    let address = read_number(line, 2, 4);
+    let Number::Value(a) = address else {
+        return Frame::Malformed;
+    };
+    let byte = read_number(line, 6, 2);
+    let Number::Value(b) = byte else {
+        return Frame::Malformed;
+    };
+    Frame::Write(a as u16, b as u8)
+}
+
+// `03` eight-digit tick.
+fn tick_line(line: &[u8]) -> Frame
+    requires { ⌜ (hexPart (now line) 0 2 ≡ true) × (numberAt (now line) 0 2 ≡ 3) ⌝ }
+    ensures { λ r. ⌜ r ≡ frameOf (now (line .entry)) ⌝ }
+{
+    if line.len() != 10 {
+        return Frame::Malformed;
+    }
+    let count = read_number(line, 2, 8);
+    let Number::Value(n) = count else {
+        return Frame::Malformed;
+    };
+    Frame::Tick(n)
+}
+
+// Whether n bytes of a line, from `at` on, are all digits.
+fn all_hex(line: &[u8], at: usize, n: usize) -> bool
+    requires { ⌜ at + n ≤ length (now line) ⌝ }
+    ensures { λ r. ⌜ r ≡ hexPart (now (line .entry)) at n ⌝ }
+{
+    let mut i = 0;
+    while i < n {
+        let digit = read_number(line, at + i, 1);
+        let Number::Value(_) = digit else {
+            return false;
+        };
+        i += 1;
+    }
+    true
+}
+
+// `04` row (00 to 7F) and 128 bytes of the image.
+fn row_line(line: &[u8]) -> Frame
+    requires { ⌜ (hexPart (now line) 0 2 ≡ true) × (numberAt (now line) 0 2 ≡ 4) ⌝ }
+    ensures { λ r. ⌜ r ≡ frameOf (now (line .entry)) ⌝ }
+{
+    if line.len() != 260 {
+        return Frame::Malformed;
+    }
+    let row = read_number(line, 2, 2);
+    let Number::Value(y) = row else {
+        return Frame::Malformed;
+    };
+    if 0x7F < y {
+        return Frame::Malformed;
+    }
+    if !all_hex(line, 4, 256) {
+        return Frame::Malformed;
+    }
+    Frame::Row(y as u8)
+}
+
+// The frame that a line says.
+pub fn frame_of(line: &[u8]) -> Frame
+    ensures { λ r. ⌜ r ≡ frameOf (now (line .entry)) ⌝ }
+{
+    if line.len() < 2 {
+        return Frame::Malformed;
+    }
+    let kind = read_number(line, 0, 2);
+    let Number::Value(k) = kind else {
+        return Frame::Malformed;
+    };
+    match k {
+        0 => reset_line(line),
+        1 => read_line(line),
+        2 => write_line(line),
+        3 => tick_line(line),
+        4 => row_line(line),
+        _ => Frame::Malformed,
+    }
+}
+
+// The byte that two digits of a line spell.
+pub fn byte_at(line: &[u8], at: usize) -> u8
+    requires { ⌜ (at + 2 ≤ length (now line)) × (hexPart (now line) at 2 ≡ true) ⌝ }
+    ensures { λ r. ⌜ r ≡ numberAt (now (line .entry)) at 2 ⌝ }
+{
+    let byte = read_number(line, at, 2);
+    let Number::Value(b) = byte else {
+        return 0;
+    };
+    b as u8
+}
