@@ -6,7 +6,7 @@ use Prim.Native.Nat.{ℕ, zero, suc}
 use native.Mathlib.Omega.{arith}
 use Rattle.controller.specs.declared.Cycles.{Cycles}
 use Rattle.controller.specs.declared.Refusal.{Refusal}
-use Rattle.controller.specs.declared.Refusal.the-variants.{State, Rom, Ram, Frame, Address, Line}
+use Rattle.controller.specs.declared.Refusal.the-variants.{State, Rom, Ram, Frame, Address, Line, Room}
 use Rattle.controller.specs.declared.ReadAnswer.{ReadAnswer}
 use Rattle.controller.specs.declared.ReadAnswer.the-variants as reads
 use Rattle.controller.specs.declared.WriteAnswer.{WriteAnswer}
@@ -22,13 +22,14 @@ use Rattle.controller.specs.Outcome.{Outcome, Inspection, numberOf, read
 
 -- the refusal of a number
 refusalOf : ℕ → Refusal
-refusalOf zero = Line
+refusalOf zero = Room
 refusalOf (suc zero) = State
 refusalOf (suc (suc zero)) = Rom
 refusalOf (suc (suc (suc zero))) = Ram
 refusalOf (suc (suc (suc (suc zero)))) = Frame
 refusalOf (suc (suc (suc (suc (suc zero))))) = Address
-refusalOf (suc (suc (suc (suc (suc (suc n)))))) = Line
+refusalOf (suc (suc (suc (suc (suc (suc zero)))))) = Line
+refusalOf (suc (suc (suc (suc (suc (suc (suc n))))))) = Room
 
 back : (r : Refusal) → refusalOf (numberOf r) ≡ r
 unfolding refusalOf
@@ -38,6 +39,7 @@ back Ram = refl
 back Frame = refl
 back Address = refl
 back Line = refl
+back Room = refl
 
 pub only-number : (r s : Refusal) → numberOf r ≡ numberOf s → r ≡ s
 only-number r s e = sym (back r) ∙ ap refusalOf e ∙ back s
@@ -50,6 +52,7 @@ some-number Ram e = omega arith
 some-number Frame e = omega arith
 some-number Address e = omega arith
 some-number Line e = omega arith
+some-number Room e = omega arith
 
 read-answer : (a b : ReadAnswer) → readNumber a ≡ readNumber b → readValue a ≡ readValue b → a ≡ b
 read-answer (reads.Byte x) (reads.Byte y) n v = ap reads.Byte v

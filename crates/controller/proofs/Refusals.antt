@@ -53,7 +53,7 @@ below n (r ∷ rows) up m h =
     simp (ne-eqb (numberOf (r .why)) m (λ e. omega arith)) (below (numberOf (r .why)) rows (both-right (leb n (numberOf (r .why))) _ up) m (omega arith))
 
 -- where no number is given, the first row does not hold, and none of the others
-first-fails : (r : Row) (rows : List Row) → lowest (r ∷ rows) ≡ 0 → (r .holds ≡ false) × (lowest rows ≡ 0)
+pub first-fails : (r : Row) (rows : List Row) → lowest (r ∷ rows) ≡ 0 → (r .holds ≡ false) × (lowest rows ≡ 0)
 unfolding lowest
 first-fails r rows e =
     either (r .holds)
@@ -105,7 +105,7 @@ pub record Refuses {O : Type 0} (rows : List Row) (number : O → ℕ) (refused 
   pub does : lowest rows ≡ 0 → o ≡ done
   pub exact : (k : ℕ) → (number o ≡ suc k) ↔ Given rows (suc k)
 
-refuses : {O : Type 0} (rows : List Row) (number : O → ℕ) (refused : ℕ → O) (done : O) → ((n : ℕ) → number (refused n) ≡ n) → number done ≡ 0 → risingFrom 0 rows ≡ true → Refuses rows number refused (judged (lowest rows) refused done) done
+pub refuses : {O : Type 0} (rows : List Row) (number : O → ℕ) (refused : ℕ → O) (done : O) → ((n : ℕ) → number (refused n) ≡ n) → number done ≡ 0 → risingFrom 0 rows ≡ true → Refuses rows number refused (judged (lowest rows) refused done) done
 refuses rows number refused done r z up =
     let numbered = by-number (lowest rows) in
     record {

@@ -23,12 +23,13 @@ impl Refusal {
             Refusal::Frame => 4,
             Refusal::Address => 5,
             Refusal::Line => 6,
+            Refusal::Room => 7,
         }
     }
 }
 
 // A row of the table: refused where it holds, and else judged by the rows after it.
-pub(crate) fn refused_if(holds: bool, why: Refusal, rest: Verdict) -> Verdict
+pub fn refused_if(holds: bool, why: Refusal, rest: Verdict) -> Verdict
     ensures { λ r. ⌜ verdictNumber r ≡ before (row why holds) (verdictNumber rest) ⌝ }
 {
     if holds {

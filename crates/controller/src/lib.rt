@@ -3,7 +3,7 @@
 mod bus;
 mod capture;
 mod inspect;
-mod judge;
+pub mod judge;
 mod picture;
 mod state;
 
@@ -23,7 +23,7 @@ pub struct Controller {
     pub elapsed: Cycles,
 }
 
-// Refusals, by what can't exist or is not allowed.
+// Refusals, by what can't exist, is not allowed or is too short.
 pub enum Refusal {
     State,
     Rom,
@@ -31,6 +31,7 @@ pub enum Refusal {
     Frame,
     Address,
     Line,
+    Room,
 }
 
 // What judging a call comes to.
