@@ -13,9 +13,11 @@ use Rattle.laws.proofs.Order.{split}
 use Rattle.lines.specs.declared.line.Frame.the-variants.{Reset, Read, Write, Tick, Row}
 use Rattle.lines.specs.Line.{isHex, worth, hexPart, numberAt, spelled, frameOf}
 use Rattle.lines.specs.Hex.{digitByte, hexText}
+use Rattle.lines.specs.Record.{readLine, writeLine, tickLine, rowHex, rowLine}
 use Rattle.lines.proofs.Digits.{Spells, both, hex-joined}
 use Rattle.lines.proofs.Placed.{length-hex}
 use Rattle.lines.proofs.Frames.{good}
+use Rattle.lines.proofs.Written.{length-row}
 
 -- a digit's byte is a digit, and worth what it was made of
 digit-hex : (d : ℕ) → d < 16 → isHex (digitByte d) ≡ true
@@ -54,7 +56,7 @@ text-hex pre post (suc n) v =
     (both _ _ (text-hex pre (digitByte (v % 16) ∷ post) n (v / 16))
     (ap isHex (last-digit pre post n v) ∙ digit-hex (v % 16) (omega arith)))
 
-text-number : (pre post : List ℕ) (n v : ℕ) → v < 16 ^ n → numberAt (pre ++ (hexText n v ++ post)) (length pre) n ≡ v
+pub text-number : (pre post : List ℕ) (n v : ℕ) → v < 16 ^ n → numberAt (pre ++ (hexText n v ++ post)) (length pre) n ≡ v
 unfolding numberAt
 text-number pre post zero v h = omega arith
 text-number pre post (suc n) v h =
@@ -68,23 +70,6 @@ spells : (line pre post : List ℕ) (at n v : ℕ) → line ≡ pre ++ (hexText 
 spells line pre post at n v e p h =
     let hex : hexPart line at n ≡ true = rw (e, p) (text-hex pre post n v) in
     record { hex = hex; is = sym (rw (e, p) (text-number pre post n v h)); small = h }
-
-abbrev pub readLine : ℕ → List ℕ
-readLine a = hexText 2 1 ++ hexText 4 a
-
-abbrev pub writeLine : ℕ → ℕ → List ℕ
-writeLine a v = hexText 2 2 ++ (hexText 4 a ++ hexText 2 v)
-
-abbrev pub tickLine : ℕ → List ℕ
-tickLine n = hexText 2 3 ++ hexText 8 n
-
--- 128 bytes of the image, two digits each
-unfoldable pub rowHex : List ℕ → List ℕ
-rowHex [] = []
-rowHex (b ∷ bytes) = hexText 2 b ++ rowHex bytes
-
-unfoldable pub rowLine : ℕ → List ℕ → List ℕ
-rowLine y bytes = hexText 2 4 ++ (hexText 2 y ++ rowHex bytes)
 
 -- `00` reset
 pub accepts-reset : frameOf (hexText 2 0) ≡ Reset
@@ -123,11 +108,6 @@ accepts-tick n h =
     let k = spells line [] (hexText 8 n) 0 2 3 refl refl (lit< tt) in
     let s = spells line (hexText 2 3) [] 2 8 n (ap (λ r. hexText 2 3 ++ r) (sym (append-nil (hexText 8 n)))) (sym (length-hex 2 3)) h in
     good line (rw e (hex-joined line 0 2 8 (k .hex) (s .hex))) ∙ simp (← k .is, eq-eqb _ _ e, ← s .is)
-
-length-row : (bytes : List ℕ) → length (rowHex bytes) ≡ 2 * length bytes
-unfolding rowHex
-length-row [] = refl
-length-row (b ∷ bytes) = omega (arith, length-append (hexText 2 b) (rowHex bytes), length-hex 2 b, length-row bytes)
 
 row-hex : (pre bytes : List ℕ) → hexPart (pre ++ rowHex bytes) (length pre) (2 * length bytes) ≡ true
 unfolding rowHex hexPart

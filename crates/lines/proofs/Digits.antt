@@ -8,13 +8,14 @@ use native.Mathlib.Numerals.{add-one}
 use native.Mathlib.Omega.{arith}
 use lib.ListN.{getD}
 use lib.Dec.{leb, lit<}
-use borrow.Author.Tests.{le-leb, lt-leb, leb-true}
+use borrow.Author.Tests.{le-leb, lt-leb, leb-true, lt-ltb, le-ltb}
 use Rattle.laws.specs.Pick.{pick}
 use Rattle.laws.proofs.Order.{split}
 use Rattle.lines.specs.declared.line.Digit.{Digit}
 use Rattle.lines.specs.declared.line.Digit.the-variants as digits
 use Rattle.lines.specs.declared.line.Number.{Number}
 use Rattle.lines.specs.declared.line.Number.the-variants as numbers
+use Rattle.lines.specs.Hex.{digitByte}
 use Rattle.lines.specs.Line.{isHex, worth, digitOf, hexPart, numberAt, numberOf}
 
 -- a conjunction that holds, and its halves
@@ -71,6 +72,21 @@ worth-small b h =
     split 0x39 b
     (λ l. let m : b ≤ 0x46 = leb-true b 0x46 (second-half (leb 0x41 b) (leb b 0x46) (sym (above b l) ∙ h)) in simp (lt-leb b 0x39 l) (omega arith))
     (λ l. simp (le-leb b 0x39 l) (omega arith))
+
+-- a digit is the byte of what it is worth
+pub digit-back : (b : ℕ) → isHex b ≡ true → digitByte (worth b) ≡ b
+unfolding digitByte
+digit-back b h =
+    split 0x39 b
+    (λ l.
+    let m = sym (above b l) ∙ h in
+    let low : 0x41 ≤ b = leb-true 0x41 b (first-half (leb 0x41 b) (leb b 0x46) m) in
+    let w : 10 ≤ b - 0x41 + 10 = omega arith in
+    simp (lt-leb b 0x39 l, le-ltb (b - 0x41 + 10) 10 w) (omega arith))
+    (λ l.
+    split b 0x30
+    (λ m. absurd (clash (simp (lt-leb 0x30 b m, lt-leb 0x41 b (omega arith)) at h)))
+    (λ m. let w : b - 0x30 < 10 = omega arith in simp (le-leb b 0x39 l, lt-ltb (b - 0x30) 10 w) (omega arith)))
 
 -- one digit more
 pub hex-more : (line : List ℕ) (at n : ℕ) → hexPart line at (n + 1) ≡ (hexPart line at n && isHex (getD line (at + n) 0))

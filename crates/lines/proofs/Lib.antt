@@ -2,4 +2,6 @@
 pub mod Digits
 pub mod Frames
 pub mod Placed
+pub mod Written
 pub mod Accepted
+pub mod Recorded

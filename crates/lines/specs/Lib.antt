@@ -1,3 +1,4 @@
 -- The meaning of one line of the bus script.
 pub mod Line
 pub mod Hex
+pub mod Record

@@ -1,0 +1,21 @@
+-- `lines::record::record_write` meets its contract: `02` and six digits, of the address and of the byte. Assumes nothing.
+use mathlib.Core.Path.{_≡_, ap, _∙_}
+use mathlib.Core.Bool.{false}
+use mathlib.Core.List.{_++_}
+use native.Mathlib.Omega.{arith}
+use borrow.Author.Needs.{needs}
+use Rattle.lines.specs.Hex.{hexText}
+use Rattle.lines.specs.Record.{lineOf, cantSay, lineMeans, recordMeans}
+use Rattle.lines.proofs.Written.{write-digits}
+use Rattle.lines.proofs.record.record_write.Statement.{statement}
+use Rattle.lines.proofs.record.record_write.Tie as tie
+
+returns : tie.Need-returns
+unfolding recordMeans lineOf cantSay
+returns c =
+    let a = c .before .before .before .before .before .args in
+    c .before .before .record-digits .ensures
+    ∙ ap (λ t. lineMeans false (hexText 2 2 ++ t) (a .out .now)) (write-digits (a .address) (a .value) (omega arith))
+
+pub record-write-spec : {M : Type 1} → statement M
+record-write-spec = tie.close (tie.spec (λ c. search needs) (λ c. search needs) (λ c κs. search needs) (λ c. search needs) returns)
