@@ -4,3 +4,4 @@ pub mod Steps
 pub mod Feeds
 pub mod Whole
 pub mod Only
+pub mod Replayed

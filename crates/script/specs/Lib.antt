@@ -3,4 +3,5 @@ pub mod Answer
 pub mod Session
 pub mod Said
 pub mod Text
+pub mod Recording
 pub mod Pieces
