@@ -21,6 +21,8 @@
  *   3  the RAM length is not allowed (8,192 times 1, 2, 4, 8 or 16)
  *   4  the image or the frame store is not 16,384 bytes
  *   5  the address is outside 0000-7FFF and A000-BFFF
+ *   6  an image row is above 7F or not 128 bytes, so no script line says it
+ *   7  a buffer lent is too short
  *
  * The memory lent to one call must not overlap, and is not kept after the call.
  */
@@ -41,6 +43,10 @@ extern "C" {
 #define GULXINETT_RAM_BANK_LEN 8192
 #define GULXINETT_FRAME_LEN 16384
 #define GULXINETT_PICTURE_LEN 3584
+
+/* An image row, and the longest script line with its LF, which is a row's. */
+#define GULXINETT_ROW_LEN 128
+#define GULXINETT_LINE_LEN 261
 
 /* Bytes of stack below the caller's frame that suffice for any call here, compiled for x86-64, for
  * aarch64 or for the browser. No function here recurs, and what is large is lent; tests/stack works
@@ -85,6 +91,29 @@ uint64_t gulxinett_inspect(const uint8_t *state, size_t state_len);
 uint64_t gulxinett_picture(const uint8_t *frame, size_t frame_len,
                            const uint8_t *registers,
                            uint8_t *picture);
+
+/* A live session is recorded as a bus script: each call below writes one frame as a line, in
+ * upper-case hexadecimal with its LF, at the start of out and keeps the bytes after it. Value: the
+ * line's length with the LF. Refused as 7 if out_len is smaller than that; GULXINETT_LINE_LEN bytes
+ * always suffice. */
+
+/* `00`: a reset. 3 bytes. */
+uint64_t gulxinett_record_reset(uint8_t *out, size_t out_len);
+
+/* `01`: a read of an address. 7 bytes. */
+uint64_t gulxinett_record_read(uint16_t address, uint8_t *out, size_t out_len);
+
+/* `02`: a write of a byte to an address. 9 bytes. */
+uint64_t gulxinett_record_write(uint16_t address, uint8_t value, uint8_t *out, size_t out_len);
+
+/* `03`: a tick. 11 bytes. */
+uint64_t gulxinett_record_tick(uint32_t cycles, uint8_t *out, size_t out_len);
+
+/* `04`: a row of the image lent, 0 to 127, and its 128 bytes; refused as 6 if row is above 127 or
+ * bytes_len is not 128, before 7. 261 bytes. */
+uint64_t gulxinett_record_row(uint8_t row,
+                              const uint8_t *bytes, size_t bytes_len,
+                              uint8_t *out, size_t out_len);
 
 #ifdef __cplusplus
 }

@@ -2,7 +2,7 @@
 use mathlib.Core.Path.{_≡_, refl, sym, ap, _∙_}
 use mathlib.Core.Bool.{Bool, true, false}
 use mathlib.Core.List.{List, []}
-use Prim.Native.Nat.{ℕ, zero, suc}
+use Prim.Native.Nat.{ℕ, zero, suc, _≤_}
 use lib.Dec.{eqb}
 use lib.ListN.{length}
 use Rattle.controller.specs.declared.Controller.{Controller}
@@ -28,9 +28,14 @@ use Rattle.controller.specs.Table.{Row, lowest}
 use Rattle.controller.specs.Picture.{afresh, pictureMeans}
 use Rattle.controller.proofs.Only.{some-number}
 use Rattle.controller.proofs.Refusals.{Refuses, inOutcome, read-refuses, write-refuses, tick-refuses}
+use Rattle.lines.specs.declared.line.Frame.{Frame}
+use Rattle.lines.specs.declared.record.Recorded.{Recorded}
+use Rattle.lines.specs.declared.record.Recorded.the-variants as answers
+use Rattle.lines.specs.Record.{Recording, recorded, recordMeans}
+use Rattle.lines.proofs.Recorded.{record-most}
 use Rattle.embed.specs.Layout.{encoded, isRecord, decoded}
 use Rattle.embed.specs.Packed.{packed}
-use Rattle.embed.specs.Exports.{called, asBytes, noRecord, unread, resetBytes, readBytes, writeBytes, tickBytes, inspected, inspectBytes, drawn, asDrawn, pictureBytes}
+use Rattle.embed.specs.Exports.{called, asBytes, noRecord, unread, resetBytes, readBytes, writeBytes, tickBytes, inspected, inspectBytes, filled, asDrawn, pictureBytes, asLine, recordBytes}
 use Rattle.embed.proofs.Inverse.{encode-decode}
 
 -- an outcome with a number hands back the state given and changes no byte lent
@@ -165,6 +170,25 @@ module _ (s : List ℕ) where
 -- ---- the picture afresh
 
 module _ (frame registers picture : List ℕ) (r : WriteAnswer) (left : List ℕ) (means : afresh (writeNumber r) left ≡ pictureMeans frame registers picture) where
-  pub picture-drawn : (x : WriteAnswer) → r ≡ x → (p : ℕ) → p ≡ packed (writeNumber x) 0 → drawn p left ≡ pictureBytes frame registers picture
+  pub picture-drawn : (x : WriteAnswer) → r ≡ x → (p : ℕ) → p ≡ packed (writeNumber x) 0 → filled p left ≡ pictureBytes frame registers picture
   unfolding pictureBytes
-  picture-drawn x f p q = (λ i. drawn (q i) left) ∙ ap asDrawn (ap (λ y. afresh (writeNumber y) left) (sym f) ∙ means)
+  picture-drawn x f p q = (λ i. filled (q i) left) ∙ ap asDrawn (ap (λ y. afresh (writeNumber y) left) (sym f) ∙ means)
+
+-- ---- a frame written as a line
+
+-- an answer's length is that of its outcome, and so is the answer, whatever the buffer holds
+recorded-length : (a : Recorded) (out : List ℕ) → recorded a [] .length ≡ recorded a out .length
+recorded-length (answers.Line n) out = refl
+recorded-length (answers.Refused why) out = refl
+
+recorded-answer : (a : Recorded) (out : List ℕ) → filled (asLine (recorded a []) .answer) out ≡ asLine (recorded a out)
+recorded-answer (answers.Line n) out = refl
+recorded-answer (answers.Refused why) out = refl
+
+module _ (f : Frame) (bytes out : List ℕ) (a : Recorded) (left : List ℕ) (means : recorded a left ≡ recordMeans f bytes out) where
+  pub record-short : recorded a [] .length ≤ 261
+  record-short = rw (recorded-length a left ∙ ap (λ (r : Recording). r .length) means) (record-most f bytes out)
+
+  pub record-filled : (p : ℕ) → p ≡ asLine (recorded a []) .answer → filled p left ≡ recordBytes f bytes out
+  unfolding recordBytes
+  record-filled p q = ap (λ n. filled n left) q ∙ recorded-answer a left ∙ ap asLine means

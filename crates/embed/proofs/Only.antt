@@ -18,9 +18,12 @@ use Rattle.controller.specs.Calls.{refusal, readMeans, writeMeans, tickMeans}
 use Rattle.controller.specs.Inspect.{firstIn, named, inspectMeans, inspectRows}
 use Rattle.controller.specs.Table.{Row, lowest}
 use Rattle.controller.proofs.Refusals.{Refuses, inOutcome, read-refuses, write-refuses, tick-refuses, judged-ind}
+use Rattle.lines.specs.declared.line.Frame.{Frame}
+use Rattle.lines.specs.Record.{recordMeans}
+use Rattle.lines.proofs.Recorded.{record-most}
 use Rattle.embed.specs.Layout.{isRecord, decoded}
 use Rattle.embed.specs.Packed.{packed}
-use Rattle.embed.specs.Exports.{readBytes, writeBytes, tickBytes, elementValue, inspectBytes}
+use Rattle.embed.specs.Exports.{readBytes, writeBytes, tickBytes, elementValue, inspectBytes, recordBytes}
 use Rattle.embed.proofs.Cases.{read-done, write-done, tick-done, inspect-done}
 
 -- the number stands above 2^32, and the value below
@@ -95,3 +98,8 @@ tick-says s ram store n l h =
 
 pub inspect-says : (s : List ℕ) → isRecord s ≡ true → Says (inspectBytes s) (inspectMeans (decoded s) .number) (elementValue (inspectMeans (decoded s)))
 inspect-says s h = rw (inspect-done s h) (packed-says _ _ (inspect-small (decoded s)))
+
+-- a frame written as a line: the number and the length
+pub record-says : (f : Frame) (bytes out : List ℕ) → Says (recordBytes f bytes out .answer) (recordMeans f bytes out .number) (recordMeans f bytes out .length)
+unfolding recordBytes
+record-says f bytes out = packed-says _ _ (omega (arith, record-most f bytes out))

@@ -10,6 +10,8 @@ use Rattle.controller.specs.Outcome.{Outcome, Inspection, numberOf}
 use Rattle.controller.specs.Calls.{readMeans, writeMeans, tickMeans}
 use Rattle.controller.specs.Inspect.{inspectMeans}
 use Rattle.controller.specs.Picture.{Afresh, pictureMeans}
+use Rattle.lines.specs.declared.line.Frame.{Frame}
+use Rattle.lines.specs.Record.{Recording, recordMeans}
 use Rattle.embed.specs.Layout.{encoded, isRecord, decoded}
 use Rattle.embed.specs.Packed.{packed}
 
@@ -59,17 +61,25 @@ inspected i = packed (i .number) (elementValue i)
 unfoldable pub inspectBytes : List ℕ → ℕ
 inspectBytes s = pick (isRecord s) (inspected (inspectMeans (decoded s))) noRecord
 
--- an answer, and the picture's bytes left
-pub record Drawn : Type 0 where
+-- an answer, and the bytes left of the buffer that a call fills
+pub record Filled : Type 0 where
   pub answer : ℕ
-  pub picture : List ℕ
+  pub bytes : List ℕ
 
-abbrev pub drawn : ℕ → List ℕ → Drawn
-drawn answer picture = record { answer = answer; picture = picture }
+abbrev pub filled : ℕ → List ℕ → Filled
+filled answer bytes = record { answer = answer; bytes = bytes }
 
-abbrev pub asDrawn : Afresh → Drawn
-asDrawn a = drawn (packed (a .number) 0) (a .bytes)
+abbrev pub asDrawn : Afresh → Filled
+asDrawn a = filled (packed (a .number) 0) (a .bytes)
 
 -- the picture afresh needs no record: frame, 54 registers, and the bytes that it fills
-unfoldable pub pictureBytes : List ℕ → List ℕ → List ℕ → Drawn
+unfoldable pub pictureBytes : List ℕ → List ℕ → List ℕ → Filled
 pictureBytes frame registers picture = asDrawn (pictureMeans frame registers picture)
+
+-- a line that is recorded: the value is its length with the LF
+abbrev pub asLine : Recording → Filled
+asLine r = filled (packed (r .number) (r .length)) (r .out)
+
+-- a frame written as a line, with an image row's bytes, into a lent buffer
+unfoldable pub recordBytes : Frame → List ℕ → List ℕ → Filled
+recordBytes f bytes out = asLine (recordMeans f bytes out)

@@ -2,6 +2,7 @@
 // Each function answers the refusal's number * 2^32 + the value (answer). A refused call changes no byte it was lent.
 mod answer;
 mod layout;
+mod record;
 
 use answer::pack;
 use answer::refused;
@@ -18,7 +19,7 @@ use layout::is_record;
 use layout::wide;
 ghost use mathlib.Core.Path.{_≡_};
 ghost use mathlib.Core.List.{[]};
-ghost use Rattle.embed.specs.Exports.{called, resetBytes, readBytes, writeBytes, tickBytes, inspectBytes, drawn, pictureBytes};
+ghost use Rattle.embed.specs.Exports.{called, resetBytes, readBytes, writeBytes, tickBytes, inspectBytes, filled, pictureBytes};
 
 // Writes the reset record.
 #[no_mangle]
@@ -118,7 +119,7 @@ pub extern "C" fn gulxinett_picture(
     registers: &[u8; 54],
     picture: &mut [u8; 3584],
 ) -> u64
-    ensures { λ r. ⌜ drawn r (now (picture .exit)) ≡ pictureBytes (now (frame .entry)) (now (registers .entry)) (now (picture .entry)) ⌝ }
+    ensures { λ r. ⌜ filled r (now (picture .exit)) ≡ pictureBytes (now (frame .entry)) (now (registers .entry)) (now (picture .entry)) ⌝ }
 {
     let answer = Controller::picture(frame, *registers, picture);
     match answer {

@@ -1,0 +1,22 @@
+-- `embed::answer::line_answer` meets its contract: the length packed, or the refusal. Assumes nothing.
+use mathlib.Core.Path.{_≡_, sym, ap, _∙_}
+use mathlib.Core.List.{[]}
+use native.Mathlib.Omega.{arith}
+use borrow.Author.Needs.{needs}
+use Rattle.lines.specs.declared.record.Recorded.{Recorded}
+use Rattle.lines.specs.Record.{recorded}
+use Rattle.embed.specs.Exports.{asLine}
+use Rattle.embed.proofs.answer.line_answer.Statement.{statement}
+use Rattle.embed.proofs.answer.line_answer.Tie as tie
+
+pub line-answer-spec : {M : Type 1} → statement M
+line-answer-spec =
+    tie.close
+    (tie.spec
+    (λ c. search needs)
+    (λ c. omega (arith, c .before .before .before .pre, ap (λ (x : Recorded). recorded x [] .length) (c .before .a .given .1)))
+    (λ c κs. search needs)
+    (λ c. search needs)
+    (λ c κs. search needs)
+    (λ c. c .pack .ensures ∙ sym (ap (λ (x : Recorded). asLine (recorded x []) .answer) (c .before .before .a .given .1)))
+    (λ c. c .refused .ensures ∙ sym (ap (λ (x : Recorded). asLine (recorded x []) .answer) (c .before .before .a2 .given .1))))
