@@ -1,7 +1,7 @@
 -- Writing and reading are inverse to each other: every frame written is read back, and every accepted line is written back.
 -- Besides: when a line is refused, what the buffer then holds, and that no second outcome fits. Assumes nothing.
 use mathlib.Core.Path.{_≡_, refl, sym, ap, _∙_}
-use mathlib.Core.Bool.{Bool, true, false, _&&_}
+use mathlib.Core.Bool.{true, false, _&&_}
 use mathlib.Core.List.{List, [], _∷_, _++_, append-assoc}
 use Prim.Native.Nat.{ℕ, zero, suc, _+_, _*_, _/_, _%_, _<_, _≤_}
 use native.Mathlib.Nat.{zero-add}
@@ -25,7 +25,7 @@ use Rattle.lines.specs.Line.{isLine, worth, hexPart, numberAt, spelled, 
 use Rattle.lines.specs.Record.{rowHex, rowLine, lineOf, cantSay, ended, recordRows, Recording, unrecorded, filled, recordMeans, recorded, bytesAt}
 use Rattle.lines.proofs.Digits.{first-half, second-half, clash, worth-small, digit-back, hex-parts, hex-within}
 use Rattle.lines.proofs.Placed.{length-hex, take-placed, drop-placed}
-use Rattle.lines.proofs.Written.{length-row, inRecording, line-refuses, line-fits, length-digits, row-long, length-row-line}
+use Rattle.lines.proofs.Written.{inRecording, line-refuses, line-fits, length-digits, row-long, length-row-line}
 use Rattle.lines.proofs.Accepted.{text-number, accepts-reset, accepts-read, accepts-write, accepts-tick, accepts-row}
 
 -- ---- written, and read back

@@ -5,16 +5,15 @@ use mathlib.Core.List.{List, [], _∷_, _++_, append-assoc}
 use Prim.Native.Nat.{ℕ, suc, _+_, _*_, _/_, _%_, _<_, _≤_}
 use native.Mathlib.Numerals.{add-one}
 use native.Mathlib.Omega.{arith}
-use lib.Dec.{eqb, leb, ltb}
+use lib.Dec.{eqb, leb}
 use lib.ListN.{length, take, getD, set, length-append, length-set}
 use lib.Seq.{take-suc, length-take-le}
 use borrow.Author.Tests.{eqb-true, ltb-false}
-use Rattle.laws.specs.Pick.{pick}
 use Rattle.laws.proofs.Bools.{either, both-right}
 use Rattle.controller.specs.Table.{before, lowest}
 use Rattle.controller.proofs.Refusals.{Refuses, refuses, risingFrom, first-fails}
 use Rattle.lines.specs.Hex.{digitByte, hexText, printed, placed}
-use Rattle.lines.specs.Record.{rowHex, rowLine, rowAllowed, ended, noLine, tooShort, recordRows, Recording, recording, unrecorded, filled, lineMeans}
+use Rattle.lines.specs.Record.{rowHex, rowLine, rowAllowed, ended, noLine, tooShort, recordRows, Recording, unrecorded, filled, lineMeans}
 use Rattle.lines.proofs.Placed.{length-hex, length-printed, length-placed, placed-next, placed-one}
 
 -- the last two digits apart

@@ -1,7 +1,7 @@
 -- A recording of any calls, played by a session, makes the same calls. Assumes nothing.
 use mathlib.Core.Path.{_≡_, refl, sym, ap, _∙_}
-use mathlib.Core.Bool.{Bool, true, false}
-use mathlib.Core.List.{List, [], _∷_, _++_, append-assoc, append-nil}
+use mathlib.Core.Bool.{true, false}
+use mathlib.Core.List.{List, [], _∷_, _++_, append-assoc}
 use Prim.Native.Nat.{ℕ, zero, suc, _+_, _*_, _<_, _≤_}
 use native.Mathlib.Nat.{add-zero}
 use native.Mathlib.Omega.{arith}
@@ -17,13 +17,13 @@ use Rattle.controller.proofs.Lent.{frame-lent}
 use Rattle.lines.specs.declared.line.Frame.{Frame}
 use Rattle.lines.specs.declared.line.Frame.the-variants.{Reset, Read, Write, Tick, Row, Malformed}
 use Rattle.lines.specs.Hex.{placed}
-use Rattle.lines.specs.Line.{isHex, hexPart, numberAt, frameOf}
+use Rattle.lines.specs.Line.{isHex, hexPart}
 use Rattle.lines.specs.Record.{lineOf, ended}
 use Rattle.lines.proofs.Digits.{second-half, clash, hex-within}
 use Rattle.lines.proofs.Frames.{bad}
 use Rattle.lines.proofs.Placed.{placed-none, placed-one, placed-next, length-placed}
 use Rattle.lines.proofs.Recorded.{Sayable, reset, read, write, tick, row, written-read, written-byte}
-use Rattle.script.specs.Session.{World, Step, world, step, rowTaken, rowImage, rowText, frameStep, stepOf}
+use Rattle.script.specs.Session.{World, world, step, rowTaken, rowImage, rowText, frameStep, stepOf}
 use Rattle.script.specs.Text.{begins, linesOf, after, played, sessionOf}
 use Rattle.script.specs.Recording.{Call, callLines, recordingOf, rowLent, callStep, callsMade}
 

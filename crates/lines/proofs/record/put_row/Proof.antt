@@ -1,6 +1,5 @@
 -- `lines::record::put_row` meets its contract: kind, row, bytes and LF are put one after another. Assumes nothing.
-use mathlib.Core.Path.{_≡_, ap, _∙_}
-use native.Mathlib.Omega.{arith}
+use mathlib.Core.Path.{ap, _∙_}
 use lib.ListN.{set, length-set}
 use borrow.Author.Needs.{needs}
 use Rattle.lines.specs.Hex.{hexText, placed}

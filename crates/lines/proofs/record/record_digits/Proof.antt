@@ -1,5 +1,5 @@
 -- `lines::record::record_digits` meets its contract: it is judged, and then put. Assumes nothing.
-use mathlib.Core.Path.{_≡_, sym, ap, _∙_}
+use mathlib.Core.Path.{sym, ap, _∙_}
 use mathlib.Core.Bool.{false}
 use Prim.Native.Nat.{_+_}
 use native.Mathlib.Nat.{zero-add}

@@ -1,5 +1,5 @@
 -- `lines::record::record_write` meets its contract: `02` and six digits, of the address and of the byte. Assumes nothing.
-use mathlib.Core.Path.{_≡_, ap, _∙_}
+use mathlib.Core.Path.{ap, _∙_}
 use mathlib.Core.Bool.{false}
 use mathlib.Core.List.{_++_}
 use native.Mathlib.Omega.{arith}
