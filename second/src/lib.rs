@@ -1,7 +1,8 @@
 //! The Game Boy Camera cartridge controller (MAC-GBD), written a second time from document 01 alone.
 //!
 //! [`State`] is the record the controller keeps; ROM, RAM, image and frame store are lent as slices.
-//! [`read`], [`write`], [`tick`], [`inspect`] and [`picture`] are the calls, [`Session`] is the bus script.
+//! [`read`], [`write`], [`tick`], [`inspect`] and [`picture`] are the calls, [`Session`] is the bus script,
+//! and [`Frame::write_line`] writes its lines.
 
 #![forbid(unsafe_code)]
 

@@ -14,12 +14,14 @@ pub enum Refusal {
     Frame = 4,
     /// The address is outside 0000-7FFF and A000-BFFF.
     Address = 5,
-    /// A script line is malformed.
+    /// A script line is malformed, or a frame is none that a line can say.
     Line = 6,
+    /// A buffer lent for output is too short.
+    Buffer = 7,
 }
 
 impl Refusal {
-    /// The paper's number, 1 to 6.
+    /// The paper's number.
     pub const fn number(self) -> u8 {
         self as u8
     }

@@ -2,14 +2,17 @@
 
 use crate::{read, tick, write, Refusal, State, FRAME_BYTES, RAM_BANK, ROM_BANK, SENSOR_WIDTH};
 
-/// What a line asks for.
+/// The last row of the image.
+const LAST_ROW: u8 = 0x7F;
+
+/// What a line asks for; a frame to be written may lend its pixels as a slice.
 #[derive(Clone, Copy, Debug, PartialEq, Eq)]
-pub enum Frame {
+pub enum Frame<Pixels = [u8; SENSOR_WIDTH]> {
     Reset,
     Read { address: u16 },
     Write { address: u16, value: u8 },
     Tick { cycles: u32 },
-    Row { row: u8, pixels: [u8; SENSOR_WIDTH] },
+    Row { row: u8, pixels: Pixels },
 }
 
 impl Frame {
@@ -40,7 +43,51 @@ impl Frame {
         for (pixel, digits) in pixels.iter_mut().zip(rest.chunks_exact(2)) {
             *pixel = number(digits)? as u8;
         }
-        (row <= 0x7F).then_some(Frame::Row { row, pixels })
+        (row <= LAST_ROW).then_some(Frame::Row { row, pixels })
+    }
+}
+
+impl<Pixels: AsRef<[u8]>> Frame<Pixels> {
+    /// Writes the frame as a line into a lent buffer, whose later bytes stay; returns the line's
+    /// length with its LF.
+    pub fn write_line(&self, buffer: &mut [u8]) -> Result<usize, Refusal> {
+        match self {
+            Frame::Reset => put_line(buffer, &[0], &[]),
+            Frame::Read { address } => {
+                let [high, low] = address.to_be_bytes();
+                put_line(buffer, &[1, high, low], &[])
+            }
+            Frame::Write { address, value } => {
+                let [high, low] = address.to_be_bytes();
+                put_line(buffer, &[2, high, low, *value], &[])
+            }
+            Frame::Tick { cycles } => put_line(buffer, &[3], &cycles.to_be_bytes()),
+            Frame::Row { row, pixels } => {
+                let pixels = pixels.as_ref();
+                if *row > LAST_ROW || pixels.len() != SENSOR_WIDTH {
+                    return Err(Refusal::Line);
+                }
+                put_line(buffer, &[4, *row], pixels)
+            }
+        }
+    }
+}
+
+/// Writes the bytes of a head and a tail as digits, then LF.
+fn put_line(buffer: &mut [u8], head: &[u8], tail: &[u8]) -> Result<usize, Refusal> {
+    let digits = 2 * (head.len() + tail.len());
+    let line = buffer.get_mut(..digits + 1).ok_or(Refusal::Buffer)?;
+    let (for_head, for_tail) = line.split_at_mut(2 * head.len());
+    put_digits(for_head, head);
+    put_digits(for_tail, tail);
+    line[digits] = b'\n';
+    Ok(line.len())
+}
+
+/// Writes each byte as two digits.
+fn put_digits(places: &mut [u8], bytes: &[u8]) {
+    for (place, &byte) in places.chunks_exact_mut(2).zip(bytes) {
+        place.copy_from_slice(&digits(byte));
     }
 }
 
@@ -60,13 +107,14 @@ fn value(digit: u8) -> Option<u8> {
     }
 }
 
+/// A byte as two digits.
+fn digits(byte: u8) -> [u8; 2] {
+    [byte >> 4, byte & 15].map(|value| value + if value < 10 { b'0' } else { b'A' - 10 })
+}
+
 /// Appends a byte as two digits.
 fn push_byte(out: &mut Vec<u8>, byte: u8) {
-    const DIGITS: &[u8; 16] = b"0123456789ABCDEF";
-    out.extend([
-        DIGITS[usize::from(byte >> 4)],
-        DIGITS[usize::from(byte & 15)],
-    ]);
+    out.extend(digits(byte));
 }
 
 /// What an accepted line is answered besides 00.

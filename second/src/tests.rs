@@ -5,3 +5,4 @@ mod figures;
 mod lines;
 mod random;
 mod slow;
+mod written;
