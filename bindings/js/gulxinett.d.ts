@@ -20,7 +20,8 @@ export const PICTURE_OFFSET: 256;
  * A call that was refused; it changed nothing.
  *
  * 1 the state record can't exist, 2 the ROM length is not allowed, 3 the RAM length is not allowed, 4 the image
- * or the frame store is not 16,384 bytes, 5 the address is outside 0000-7FFF and A000-BFFF.
+ * or the frame store is not 16,384 bytes, 5 the address is outside 0000-7FFF and A000-BFFF, 6 a script line or
+ * image row is malformed, 7 the room lent for what is written is too short.
  */
 export class Refusal extends Error {
   constructor(number: number);
@@ -75,6 +76,13 @@ export interface Cartridge {
   inspect(): Element | null;
   /** Lends an image of 16,384 bytes to the writes that follow; until then it is all 00. */
   lend(image: Bytes): void;
+  /**
+   * Switches the recorder on: from here on every call, refused ones too, is a line of a script that the program
+   * `bus` plays, and an image lent is its rows. Switched on again, it goes on.
+   */
+  record(): void;
+  /** A copy of the script so far; empty if the recorder was never switched on. */
+  recording(): Uint8Array;
   /** The picture afresh: by itself that of the image lent, under the registers as last written. */
   picture(frame?: Bytes, registers?: Bytes): Uint8Array;
   /** The picture area as it stands in RAM, 3,584 bytes. */

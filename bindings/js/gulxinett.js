@@ -2,6 +2,7 @@
 // owns a cartridge's memory in it.
 
 import { Memory } from "./memory.js";
+import { LINE_BYTES, ROW_BYTES, Recorder } from "./recorder.js";
 
 /** Bytes of the state record. */
 export const STATE_BYTES = 116;
@@ -28,6 +29,8 @@ const SENTENCES = {
   3: "the RAM length is not allowed",
   4: "the image or the frame store is not 16,384 bytes",
   5: "the address is outside 0000-7FFF and A000-BFFF",
+  6: "the script line or image row is malformed",
+  7: "the room lent for what is written is too short",
 };
 
 /** A call that was refused, by its number; it changed nothing. */
@@ -105,6 +108,20 @@ function bound(exports) {
     });
   }
 
+  // The module writes each line of a recording to one place, a row of the image from another.
+  const { room, lentRow } = memory.keep({ room: new Uint8Array(LINE_BYTES), lentRow: new Uint8Array(ROW_BYTES) });
+  const line = (answer) => room.bytes.subarray(0, valueOf(answer));
+  const lines = {
+    reset: () => line(exports.gulxinett_record_reset(...lent(room))),
+    read: (address) => line(exports.gulxinett_record_read(address, ...lent(room))),
+    write: (address, value) => line(exports.gulxinett_record_write(address, value, ...lent(room))),
+    tick: (cycles) => line(exports.gulxinett_record_tick(cycles, ...lent(room))),
+    row: (number, bytes) => {
+      lentRow.bytes.set(bytes);
+      return line(exports.gulxinett_record_row(number, ...lent(lentRow, room)));
+    },
+  };
+
   class Cartridge {
     /** The pieces of memory that are this cartridge's; none once it is closed. */
     #kept;
@@ -113,6 +130,9 @@ function bound(exports) {
     #writing;
     #ticking;
     #inspecting;
+    /** The image is the one a script begins with: the job begins here, and none was lent yet. */
+    #imageUntouched;
+    #recorder;
 
     constructor({
       rom = filled(ROM_BANK, 0xff),
@@ -132,6 +152,7 @@ function bound(exports) {
       this.#writing = lent(kept.state, kept.ram, kept.store, kept.image);
       this.#ticking = lent(kept.state, kept.ram, kept.store);
       this.#inspecting = lent(kept.state);
+      this.#imageUntouched = state === resetRecord;
       this.#judge();
     }
 
@@ -161,26 +182,33 @@ function bound(exports) {
     /** Resets the state; RAM, frame store and image stay. */
     reset() {
       this.#open();
+      this.#recorder?.note("reset");
       valueOf(exports.gulxinett_reset(...this.#inspecting));
     }
 
     /** The byte at an address. */
     read(address) {
       this.#open();
-      return valueOf(exports.gulxinett_read(...this.#reading, upTo(0xffff, "the address", address)));
+      upTo(0xffff, "the address", address);
+      this.#recorder?.note("read", address);
+      return valueOf(exports.gulxinett_read(...this.#reading, address));
     }
 
     /** Writes a byte to an address; a start copies the image lent to the frame store. */
     write(address, value) {
-      this.#open();
-      const words = [upTo(0xffff, "the address", address), upTo(0xff, "the value", value)];
-      valueOf(exports.gulxinett_write(...this.#writing, ...words));
+      const { image } = this.#open();
+      upTo(0xffff, "the address", address);
+      upTo(0xff, "the value", value);
+      this.#recorder?.write(image.bytes, address, value);
+      valueOf(exports.gulxinett_write(...this.#writing, address, value));
     }
 
     /** Lets cycles pass; how many of them fell while a capture was running. */
     tick(cycles) {
       this.#open();
-      return valueOf(exports.gulxinett_tick(...this.#ticking, upTo(0xffff_ffff, "the cycles", cycles)));
+      upTo(0xffff_ffff, "the cycles", cycles);
+      this.#recorder?.note("tick", cycles);
+      return valueOf(exports.gulxinett_tick(...this.#ticking, cycles));
     }
 
     /** The first element of the matrix whose values don't rise or stay level; null if there is none. */
@@ -195,7 +223,21 @@ function bound(exports) {
       const { image: kept } = this.#open();
       const bytes = bytesOf("the image", image);
       if (bytes.length !== FRAME_BYTES) throw new Refusal(4);
+      this.#recorder?.lend(kept.bytes, bytes);
       kept.bytes.set(bytes);
+      this.#imageUntouched = false;
+    }
+
+    /** Switches the recorder on: every call from here on is a line of a script. Switched on again, it goes on. */
+    record() {
+      this.#open();
+      this.#recorder ??= new Recorder(lines, this.#imageUntouched);
+    }
+
+    /** A copy of the script so far; empty if the recorder was never switched on. */
+    recording() {
+      this.#open();
+      return this.#recorder?.script ?? new Uint8Array();
     }
 
     /** The picture afresh: by itself that of the image lent, under the registers as last written. */
@@ -223,6 +265,7 @@ function bound(exports) {
     close() {
       if (this.#kept) memory.release(this.#kept);
       this.#kept = undefined;
+      this.#recorder = undefined;
     }
   }
 
@@ -256,9 +299,9 @@ function exactly(length, what, value) {
   return bytes;
 }
 
-/** A whole number from 0 to the most there is. */
+/** Sees that a value is a whole number from 0 to the most there is. */
 function upTo(most, what, value) {
   if (typeof value !== "number") throw new TypeError(`${what} must be a number, not ${typeof value}`);
-  if (Number.isInteger(value) && value >= 0 && value <= most) return value;
+  if (Number.isInteger(value) && value >= 0 && value <= most) return;
   throw new RangeError(`${what} must be a whole number from 0 to ${most}, not ${value}`);
 }

@@ -31,6 +31,10 @@ PICTURE_OFFSET = 0x100
 
 # Where the registers stand in the state record.
 _REGISTERS_OFFSET = 8
+# Bytes of a row of the image.
+_ROW_BYTES = 128
+# Bytes of the longest line of a script, that of a row, with its LF.
+_LINE_BYTES = 261
 
 # What each refusal number says.
 _SENTENCES = {
@@ -39,6 +43,8 @@ _SENTENCES = {
     3: "the RAM length is not allowed",
     4: "the image or the frame store is not 16,384 bytes",
     5: "the address is outside 0000-7FFF and A000-BFFF",
+    6: "the script line or image row is malformed",
+    7: "the room lent for what is written is too short",
 }
 
 # What each function is given: lent memory is a place and a length, a bare place has a length that is settled.
@@ -51,6 +57,11 @@ _FUNCTIONS = {
     "tick": _LENT * 3 + (ctypes.c_uint32,),
     "inspect": _LENT,
     "picture": _LENT + (_PLACE, _PLACE),
+    "record_reset": _LENT,
+    "record_read": (ctypes.c_uint16,) + _LENT,
+    "record_write": (ctypes.c_uint16, ctypes.c_uint8) + _LENT,
+    "record_tick": (ctypes.c_uint32,) + _LENT,
+    "record_row": (ctypes.c_uint8,) + _LENT * 2,
 }
 
 
@@ -169,6 +180,39 @@ def picture(frame, registers):
     return bytes(plate)
 
 
+class _Recorder:
+    """What was done to a cartridge, as the lines of a script, and what they tell of the image."""
+
+    def __init__(self, image_known):
+        """The image is known if it is the one that a script begins with."""
+        self.script = bytearray()
+        self._room = (ctypes.c_ubyte * _LINE_BYTES)()
+        # every row of the image has a line
+        self._rows_written = False
+        # whoever plays the lines has the image that the cartridge has
+        self._image_known = image_known
+
+    def note(self, kind, *words):
+        """Appends a line as the library writes it."""
+        length = _call("record_" + kind, *words, *_lent(self._room))
+        self.script += memoryview(self._room)[:length]
+
+    def write(self, image, address, value):
+        """Notes a write; it is lent the image, which may have to be told first."""
+        if not self._image_known:
+            self.lend(image, image)
+        self.note("write", address, value)
+
+    def lend(self, before, now):
+        """Another image is lent: the rows that changed, and the first time all."""
+        before, now = bytes(before), bytes(now)
+        for row, place in enumerate(range(0, len(now), _ROW_BYTES)):
+            there = slice(place, place + _ROW_BYTES)
+            if not self._rows_written or before[there] != now[there]:
+                self.note("row", row, *_lent(_memory("the row", now[there])))
+        self._rows_written = self._image_known = True
+
+
 class Cartridge:
     """A cartridge: state, ROM, RAM, frame store and the image lent.
 
@@ -182,6 +226,9 @@ class Cartridge:
         self._store = _memory("the frame store", bytes(FRAME_BYTES) if store is None else store)
         self._image = _memory("the image", bytes(FRAME_BYTES))
         self._closed = False
+        # the image is the one a script begins with: the job begins here, and none was lent yet
+        self._image_untouched = state is None
+        self._recorder = None
         if state is None:
             self.reset()
         # the library judges what was given: a read looks at state, ROM and RAM, no cycles at the store too
@@ -203,27 +250,37 @@ class Cartridge:
         if self._closed:
             raise ValueError("the cartridge is closed")
 
+    def _note(self, kind, *words):
+        """Lets the recorder note a call, if it is switched on."""
+        if self._recorder:
+            self._recorder.note(kind, *words)
+
     def reset(self):
         """Resets the state; RAM, frame store and image stay."""
         self._open()
+        self._note("reset")
         _call("reset", *_lent(self._state))
 
     def read(self, address):
         """The byte at an address."""
         self._open()
         address = _up_to(0xFFFF, "the address", address)
+        self._note("read", address)
         return _call("read", *_lent(self._state, self._rom, self._ram), address)
 
     def write(self, address, value):
         """Writes a byte to an address; a start copies the image lent to the frame store."""
         self._open()
         address, value = _up_to(0xFFFF, "the address", address), _up_to(0xFF, "the value", value)
+        if self._recorder:
+            self._recorder.write(self._image, address, value)
         _call("write", *_lent(self._state, self._ram, self._store, self._image), address, value)
 
     def tick(self, cycles):
         """Lets cycles pass; how many of them fell while a capture was running."""
         self._open()
         cycles = _up_to(0xFFFF_FFFF, "the cycles", cycles)
+        self._note("tick", cycles)
         return _call("tick", *_lent(self._state, self._ram, self._store), cycles)
 
     def inspect(self) -> Optional[Element]:
@@ -238,7 +295,21 @@ class Cartridge:
         image = _memory("the image", image)
         if len(image) != FRAME_BYTES:
             raise Refusal(4)
+        if self._recorder:
+            self._recorder.lend(self._image, image)
         self._image = image
+        self._image_untouched = False
+
+    def record(self):
+        """Switches the recorder on: from here on every call, refused ones too, is a line of a script that the
+        program `bus` plays, and an image lent is its rows. Switched on again, it goes on."""
+        self._open()
+        self._recorder = self._recorder or _Recorder(self._image_untouched)
+
+    def recording(self):
+        """The script so far; empty if the recorder was never switched on."""
+        self._open()
+        return bytes(self._recorder.script) if self._recorder else b""
 
     def picture(self, frame=None, registers=None):
         """The picture afresh: by itself that of the image lent, under the registers as last written."""
@@ -259,7 +330,7 @@ class Cartridge:
     def close(self):
         """Gives the memory back; every later call but this one is an error."""
         self._closed = True
-        self._state = self._rom = self._ram = self._store = self._image = None
+        self._state = self._rom = self._ram = self._store = self._image = self._recorder = None
 
     def __enter__(self):
         self._open()

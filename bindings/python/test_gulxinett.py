@@ -39,6 +39,51 @@ def whole(cartridge):
     return cartridge.save(), cartridge.picture()
 
 
+def row_lines(image, rows):
+    """The lines of some rows of an image."""
+    return b"".join(b"04%02X%s\n" % (row, image[128 * row : 128 * row + 128].hex().upper().encode()) for row in rows)
+
+
+class Recording(unittest.TestCase):
+    def test_every_call_made_and_every_row_that_changed(self):
+        cartridge = Cartridge()
+        cartridge.read(0)
+        self.assertEqual(cartridge.recording(), b"")
+        cartridge.record()
+        cartridge.write(0x4000, 0x10)
+        for refused in (lambda: cartridge.read(0x8ABC), lambda: cartridge.write(0xFEDC, 0xBA)):
+            self.assertRaises(Refusal, refused)
+        cartridge.tick(0xDEADBEEF)
+        cartridge.record()
+        cartridge.reset()
+        due = b"02400010\n018ABC\n02FEDCBA\n03DEADBEEF\n00\n"
+        self.assertEqual(cartridge.recording(), due)
+        self.assertRaises(ValueError, cartridge.write, 0xA000, 256)
+        self.assertRaises(Refusal, cartridge.lend, bytes(5))
+        whole(cartridge), cartridge.inspect(), cartridge.plate()
+        self.assertEqual(cartridge.recording(), due)
+        image = bytearray(FRAME_BYTES)
+        cartridge.lend(image)
+        cartridge.lend(image)
+        due += row_lines(image, range(128))
+        self.assertEqual(cartridge.recording(), due)
+        image[5 * 128 + 127], image[127 * 128] = 9, 0xAB
+        cartridge.lend(image)
+        self.assertEqual(cartridge.recording(), due + row_lines(image, (5, 127)))
+
+    def test_an_image_that_a_script_does_not_begin_with_is_told_before_a_write(self):
+        restored, lent = Cartridge.restore(Cartridge().save()), Cartridge()
+        lent.lend(frame(1))
+        for cartridge, image in ((restored, bytes(FRAME_BYTES)), (lent, frame(1))):
+            cartridge.record()
+            cartridge.tick(1)
+            cartridge.write(0, 0)
+            cartridge.write(0, 1)
+            cartridge.lend(image)
+            due = b"0300000001\n" + row_lines(image, range(128)) + b"02000000\n02000001\n"
+            self.assertEqual(cartridge.recording(), due)
+
+
 class Calls(unittest.TestCase):
     def test_calls(self):
         rom = b"\x5a" * ROM_BANK + b"\xa5" * ROM_BANK
@@ -171,7 +216,7 @@ class BadInput(unittest.TestCase):
         cartridge.close()
         uses = {
             "reset": (), "read": (0,), "write": (0xA000, 0), "tick": (1,), "inspect": (), "lend": (frame(1),),
-            "picture": (), "plate": (), "save": (),
+            "picture": (), "plate": (), "save": (), "record": (), "recording": (),
         }
         for name, words in uses.items():
             with self.assertRaisesRegex(ValueError, "the cartridge is closed"):

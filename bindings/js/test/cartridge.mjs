@@ -116,6 +116,65 @@ function calls() {
   say("each call, and a whole capture");
 }
 
+/** The lines of some rows of an image. */
+const rowLines = (image, rows) =>
+  rows.map((row) => `${Buffer.from([4, row, ...image.subarray(128 * row, 128 * row + 128)]).toString("hex").toUpperCase()}\n`).join("");
+
+const everyRow = Array.from({ length: 128 }, (_, row) => row);
+
+/** The recorder has every call made, refused ones too, and the rows of what is lent; nothing else. */
+function recorder() {
+  const cartridge = new Cartridge();
+  let due = "";
+  const has = (more) => assert.equal(Buffer.from(cartridge.recording()).toString(), (due += more));
+  cartridge.read(0);
+  has("");
+  cartridge.record();
+  cartridge.write(0x4000, 0x10);
+  refused(5, () => cartridge.read(0x8abc));
+  refused(5, () => cartridge.write(0xfedc, 0xba));
+  cartridge.tick(0xdeadbeef);
+  cartridge.record();
+  cartridge.reset();
+  has("02400010\n018ABC\n02FEDCBA\n03DEADBEEF\n00\n");
+  throws(RangeError, "the value", () => cartridge.write(0xa000, 256));
+  refused(4, () => cartridge.lend(new Uint8Array(5)));
+  whole(cartridge);
+  cartridge.inspect();
+  cartridge.plate();
+  has("");
+  const image = new Uint8Array(FRAME_BYTES);
+  cartridge.lend(image);
+  has(rowLines(image, everyRow));
+  cartridge.lend(image);
+  has("");
+  image[5 * 128 + 127] = 9;
+  image[127 * 128] = 0xab;
+  cartridge.lend(image);
+  has(rowLines(image, [5, 127]));
+  const copy = cartridge.recording();
+  copy.fill(0);
+  has("");
+  recorderNotAtTheBeginning(image, Cartridge.restore(cartridge.save()));
+  say(`the recorder: ${due.length} bytes, each call made and each row that changed`);
+}
+
+/** An image that a script does not begin with is told before the first write, which may be a start. */
+function recorderNotAtTheBeginning(image, restored) {
+  const lent = new Cartridge();
+  lent.lend(image);
+  for (const [cartridge, shown] of [[restored, new Uint8Array(FRAME_BYTES)], [lent, image]]) {
+    cartridge.record();
+    cartridge.tick(1);
+    cartridge.write(0, 0);
+    cartridge.write(0, 1);
+    cartridge.lend(shown);
+    const due = `0300000001\n${rowLines(shown, everyRow)}02000000\n02000001\n`;
+    assert.equal(Buffer.from(cartridge.recording()).toString(), due);
+    cartridge.close();
+  }
+}
+
 /** Many cartridges in one module, so that its memory grows while captures run. */
 function sideBySide() {
   const many = Array.from({ length: 40 }, (_, number) => {
@@ -281,6 +340,7 @@ function closed() {
   cartridge.close();
   const uses = {
     reset: [], read: [0], write: [0xa000, 0], tick: [1], inspect: [], lend: [frame(1)], picture: [], plate: [], save: [],
+    record: [], recording: [],
   };
   for (const [name, words] of Object.entries(uses)) throws(Error, "the cartridge is closed", () => cartridge[name](...words));
   throws(Error, "the cartridge is closed", () => cartridge.picture(frame(1), registers));
@@ -293,6 +353,7 @@ theModule();
 types();
 await loading();
 calls();
+recorder();
 sideBySide();
 memory();
 await nothingLost();

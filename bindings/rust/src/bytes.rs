@@ -18,7 +18,7 @@ impl Answer {
     pub fn result(self) -> Result<u32, Refusal> {
         match (self.0 >> 32) as u32 {
             0 => Ok(self.0 as u32),
-            number => Err(Refusal::from_number(number).expect("a refusal is 1 to 5")),
+            number => Err(Refusal::from_number(number).expect("a refusal is 1 to 7")),
         }
     }
 }
@@ -106,6 +106,46 @@ pub fn picture(
             frame.len(),
             registers.as_ptr(),
             picture.as_mut_ptr(),
+        )
+    })
+}
+
+/// Writes a reset as a line of a bus script; the value is the line's length with its LF, here and
+/// below. Bytes of `out` beyond it stay, and a shorter `out` is refused as [`Refusal::Room`].
+pub fn record_reset(out: &mut [u8]) -> Answer {
+    // SAFETY: the pointer and length are those of one slice, borrowed for the call.
+    Answer(unsafe { ffi::gulxinett_record_reset(out.as_mut_ptr(), out.len()) })
+}
+
+/// Writes a read as a line.
+pub fn record_read(address: u16, out: &mut [u8]) -> Answer {
+    // SAFETY: the pointer and length are those of one slice, borrowed for the call.
+    Answer(unsafe { ffi::gulxinett_record_read(address, out.as_mut_ptr(), out.len()) })
+}
+
+/// Writes a write as a line.
+pub fn record_write(address: u16, value: u8, out: &mut [u8]) -> Answer {
+    // SAFETY: the pointer and length are those of one slice, borrowed for the call.
+    Answer(unsafe { ffi::gulxinett_record_write(address, value, out.as_mut_ptr(), out.len()) })
+}
+
+/// Writes a tick as a line.
+pub fn record_tick(cycles: u32, out: &mut [u8]) -> Answer {
+    // SAFETY: the pointer and length are those of one slice, borrowed for the call.
+    Answer(unsafe { ffi::gulxinett_record_tick(cycles, out.as_mut_ptr(), out.len()) })
+}
+
+/// Writes a row of the image as a line; a row above 7F or of another length than 128 bytes is
+/// refused as [`Refusal::Line`].
+pub fn record_row(row: u8, bytes: &[u8], out: &mut [u8]) -> Answer {
+    // SAFETY: each pointer and length are those of one slice, and the mutable one is apart.
+    Answer(unsafe {
+        ffi::gulxinett_record_row(
+            row,
+            bytes.as_ptr(),
+            bytes.len(),
+            out.as_mut_ptr(),
+            out.len(),
         )
     })
 }

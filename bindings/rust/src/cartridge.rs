@@ -1,5 +1,6 @@
 //! A cartridge that owns its memory.
 
+use crate::recorder::Recorder;
 use crate::{
     inspect, picture, read, reset, tick, write, Element, Refusal, State, FRAME_BYTES,
     PICTURE_BYTES, PICTURE_OFFSET, RAM_BANK, ROM_BANK,
@@ -13,6 +14,9 @@ pub struct Cartridge {
     ram: Vec<u8>,
     store: Vec<u8>,
     image: Vec<u8>,
+    /// The image is the one a script begins with: the job begins here, and none was lent yet.
+    image_untouched: bool,
+    recorder: Option<Recorder>,
 }
 
 /// All that a cartridge needs to go on elsewhere; the ROM is brought by whoever goes on.
@@ -35,6 +39,8 @@ impl Default for Cartridge {
             ram: vec![0xFF; RAM_BANK],
             store: vec![0; FRAME_BYTES],
             image: vec![0; FRAME_BYTES],
+            image_untouched: true,
+            recorder: None,
         }
     }
 }
@@ -64,6 +70,7 @@ impl Cartridge {
             rom,
             ram: save.ram,
             store: save.store,
+            image_untouched: false,
             ..Cartridge::default()
         }
         .judged()
@@ -79,11 +86,13 @@ impl Cartridge {
 
     /// Resets the state; RAM, frame store and image stay.
     pub fn reset(&mut self) {
+        self.note(Recorder::reset);
         self.state = reset();
     }
 
     /// Reads the byte at an address.
-    pub fn read(&self, address: u16) -> Result<u8, Refusal> {
+    pub fn read(&mut self, address: u16) -> Result<u8, Refusal> {
+        self.note(|recorder| recorder.read(address));
         read(&self.state, &self.rom, &self.ram, address)
     }
 
@@ -94,13 +103,18 @@ impl Cartridge {
             ram,
             store,
             image,
+            recorder,
             ..
         } = self;
+        if let Some(recorder) = recorder {
+            recorder.write(image, address, value);
+        }
         write(state, ram, store, image, address, value)
     }
 
     /// Lets cycles pass; returns how many fell while a capture was running.
     pub fn tick(&mut self, cycles: u32) -> Result<u32, Refusal> {
+        self.note(|recorder| recorder.tick(cycles));
         tick(&mut self.state, &mut self.ram, &self.store, cycles)
     }
 
@@ -114,8 +128,30 @@ impl Cartridge {
         if image.len() != FRAME_BYTES {
             return Err(Refusal::Frame);
         }
+        if let Some(recorder) = &mut self.recorder {
+            recorder.lend(&self.image, image);
+        }
         self.image.copy_from_slice(image);
+        self.image_untouched = false;
         Ok(())
+    }
+
+    /// Switches the recorder on: from here on every call, refused ones too, is a line of a script
+    /// that the program `bus` plays. Switched on again, it goes on.
+    pub fn record(&mut self) {
+        let untouched = self.image_untouched;
+        self.recorder
+            .get_or_insert_with(|| Recorder::new(untouched));
+    }
+
+    /// The script so far; empty if the recorder was never switched on.
+    pub fn recording(&self) -> &[u8] {
+        self.recorder.as_ref().map_or(&[], Recorder::script)
+    }
+
+    /// Lets the recorder note a call, if it is switched on.
+    fn note(&mut self, call: impl FnOnce(&mut Recorder)) {
+        self.recorder.as_mut().map(call);
     }
 
     /// The picture afresh of the image lent, under the registers as last written.

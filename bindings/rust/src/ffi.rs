@@ -44,4 +44,20 @@ extern "C" {
         registers: *const u8,
         picture: *mut u8,
     ) -> u64;
+
+    pub fn gulxinett_record_reset(out: *mut u8, out_len: usize) -> u64;
+
+    pub fn gulxinett_record_read(address: u16, out: *mut u8, out_len: usize) -> u64;
+
+    pub fn gulxinett_record_write(address: u16, value: u8, out: *mut u8, out_len: usize) -> u64;
+
+    pub fn gulxinett_record_tick(cycles: u32, out: *mut u8, out_len: usize) -> u64;
+
+    pub fn gulxinett_record_row(
+        row: u8,
+        bytes: *const u8,
+        bytes_len: usize,
+        out: *mut u8,
+        out_len: usize,
+    ) -> u64;
 }

@@ -14,6 +14,7 @@
 pub mod bytes;
 mod cartridge;
 mod ffi;
+mod recorder;
 mod state;
 
 pub use cartridge::{Cartridge, Save};
@@ -33,6 +34,10 @@ pub const FRAME_BYTES: usize = 16_384;
 pub const PICTURE_BYTES: usize = 3_584;
 /// Where the picture lies in RAM bank 0.
 pub const PICTURE_OFFSET: usize = 0x100;
+/// Bytes of a row of the image.
+pub const ROW_BYTES: usize = 128;
+/// Bytes of the longest line of a bus script, that of an image row, with its LF.
+pub const LINE_BYTES: usize = 261;
 
 /// Why a call is refused; the number of each case is the interface's.
 #[derive(Clone, Copy, Debug, PartialEq, Eq, PartialOrd, Ord)]
@@ -48,15 +53,19 @@ pub enum Refusal {
     Frame = 4,
     /// The address is outside 0000-7FFF and A000-BFFF.
     Address = 5,
+    /// The script line, or the image row for one, is malformed.
+    Line = 6,
+    /// The room lent for what is written is too short.
+    Room = 7,
 }
 
 impl Refusal {
-    /// The interface's number, 1 to 5.
+    /// The interface's number, 1 to 7.
     pub const fn number(self) -> u8 {
         self as u8
     }
 
-    /// The refusal of a number; none outside 1 to 5.
+    /// The refusal of a number; none outside 1 to 7.
     pub const fn from_number(number: u32) -> Option<Refusal> {
         Some(match number {
             1 => Refusal::State,
@@ -64,6 +73,8 @@ impl Refusal {
             3 => Refusal::Ram,
             4 => Refusal::Frame,
             5 => Refusal::Address,
+            6 => Refusal::Line,
+            7 => Refusal::Room,
             _ => return None,
         })
     }
@@ -77,6 +88,8 @@ impl std::fmt::Display for Refusal {
             Refusal::Ram => "the RAM length is not allowed",
             Refusal::Frame => "the image or the frame store is not 16,384 bytes",
             Refusal::Address => "the address is outside 0000-7FFF and A000-BFFF",
+            Refusal::Line => "the script line or image row is malformed",
+            Refusal::Room => "the room lent for what is written is too short",
         })
     }
 }

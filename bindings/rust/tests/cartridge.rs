@@ -65,7 +65,7 @@ fn the_calls() {
     cartridge.write(0xA006, 0xFF).unwrap();
     let first = Element { row: 0, column: 0 };
     assert_eq!(cartridge.inspect(), Ok(Some(first)));
-    let other = Cartridge::restore_with(cartridge.save(), rom).unwrap();
+    let mut other = Cartridge::restore_with(cartridge.save(), rom).unwrap();
     assert_eq!(other.read(0x4000), Ok(0xA5));
     cartridge.reset();
     assert_eq!(cartridge.inspect(), Ok(None));

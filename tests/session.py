@@ -1,0 +1,138 @@
+"""A worker of a job: random calls on a recorded cartridge, the same ones in every language for the same seed.
+
+usage: python3 session.py SAVE OUT SEED STEPS [plate]; session.mjs has what the words mean
+"""
+
+import sys
+from pathlib import Path
+
+sys.path.insert(0, str(Path(__file__).resolve().parents[1] / "bindings" / "python"))
+from gulxinett import FRAME_BYTES, PICTURE_BYTES, RAM_BANK, REGISTERS, STATE_BYTES, Cartridge, Refusal
+
+TRIGGER = 0xA000
+AREA = 0xA100
+
+
+class Session:
+    def __init__(self, cartridge, seed):
+        self.cartridge = cartridge
+        self.state = seed & 0xFFFF_FFFF
+        self.image = bytearray(FRAME_BYTES)
+        self.answers = []
+        cartridge.record()
+
+    def below(self, limit):
+        """A number below a limit."""
+        self.state = (self.state * 1664525 + 1013904223) & 0xFFFF_FFFF
+        return (self.state >> 8) * limit >> 24
+
+    def call(self, digits, work, *words):
+        """Makes a call and notes what `bus` would answer."""
+        try:
+            value = work(*words)
+            self.answers.append("00" + ("%0*X" % (digits, value) if digits else ""))
+        except Refusal as refusal:
+            self.answers.append("%02X" % refusal.number)
+
+    def read(self, address):
+        self.call(2, self.cartridge.read, address)
+
+    def write(self, address, value):
+        self.call(0, self.cartridge.write, address, value)
+
+    def tick(self, cycles):
+        self.call(8, self.cartridge.tick, cycles)
+
+    def step(self):
+        kind = self.below(100)
+        if kind < 1:
+            self.call(0, self.cartridge.reset)
+        elif kind < 5:
+            self.lend()
+        elif kind < 8:
+            self.capture()
+        elif kind < 40:
+            self.read(self.address())
+        elif kind < 55:
+            self.write(self.address(), self.below(256))
+        elif kind < 60:
+            self.write(0, (0, 0x0A)[self.below(2)])
+        elif kind < 65:
+            self.write(0x4000, (0, 0x10)[self.below(2)])
+        elif kind < 70:
+            self.write(TRIGGER, self.below(8))
+        elif kind < 95:
+            self.tick(self.cycles())
+        else:
+            self.look()
+
+    def address(self):
+        kind = self.below(4)
+        if kind == 0:
+            return self.below(65536)
+        return TRIGGER + self.below(128) if kind == 1 else AREA + self.below(PICTURE_BYTES)
+
+    def cycles(self):
+        if self.below(4) > 0:
+            return self.below(20_000)
+        high = self.below(65536)
+        return high * 65536 + self.below(65536)
+
+    def lend(self):
+        """The same image again, one with a few other rows, or quite another."""
+        kind = self.below(3)
+        light, slope = self.below(256), self.below(256)
+        rows = 0 if kind == 0 else 1 + self.below(5) if kind == 1 else 128
+        first = self.below(129 - rows)
+        for place in range(128 * first, 128 * (first + rows)):
+            self.image[place] = (light + slope * place + 7 * (place >> 7)) & 255
+        self.cartridge.lend(self.image)
+
+    def capture(self):
+        """Stops what runs, writes the registers, and starts."""
+        self.write(0x4000, 0x10)
+        self.write(TRIGGER, 0)
+        for n in reversed(range(1, REGISTERS)):
+            self.write(TRIGGER + n, self.below(4 if n == 2 else 256))
+        self.write(TRIGGER, 1 + 2 * self.below(4))
+
+    def look(self):
+        """What only looks is no call of a script."""
+        self.cartridge.inspect()
+        self.cartridge.picture()
+        self.cartridge.plate()
+        self.cartridge.save()
+
+    def read_out(self):
+        """Stops what runs and reads the plate by calls."""
+        self.write(0x4000, 0x10)
+        self.write(TRIGGER, 0)
+        self.write(0x4000, 0)
+        before = len(self.answers)
+        for place in range(PICTURE_BYTES):
+            self.read(AREA + place)
+        if self.answers[before:] != ["00%02X" % byte for byte in self.cartridge.plate()]:
+            sys.exit("session.py: the bytes read are not the plate")
+
+
+def restored(path):
+    """The cartridge of a file: state, RAM and frame store, one after the other."""
+    saved = path.read_bytes()
+    store = STATE_BYTES + RAM_BANK
+    return Cartridge.restore((saved[:STATE_BYTES], saved[STATE_BYTES:store], saved[store:]))
+
+
+def main(save, out, seed, steps, plate=None):
+    save = Path(save)
+    session = Session(restored(save) if save.exists() else Cartridge(), int(seed))
+    for _ in range(int(steps)):
+        session.step()
+    if plate:
+        session.read_out()
+    save.write_bytes(b"".join(session.cartridge.save()))
+    Path(out + ".script").write_bytes(session.cartridge.recording())
+    Path(out + ".answers").write_text("".join(answer + "\n" for answer in session.answers))
+
+
+if __name__ == "__main__":
+    main(*sys.argv[1:])
