@@ -14,7 +14,9 @@ const UNDRAWN = 0xa5;
 const FENCE = 0xc3;
 const FENCE_BYTES = 64;
 /** The most bytes that each memory is lent, in the order of the steps. */
-const ROOM = { state: 256, rom: 130 * 16384, ram: 34 * 8192, store: 32768, image: 32768, picture: 3584, registers: 54 };
+const ROOM = {
+  state: 256, rom: 130 * 16384, ram: 34 * 8192, store: 32768, image: 32768, picture: 3584, out: 512, registers: 54, row: 256,
+};
 const NAMES = Object.keys(ROOM);
 /** Every so many calls all of the memory is compared, what was not lent too. */
 const OFTEN = 1000;
@@ -94,6 +96,17 @@ class Memories {
 /** The calls by their kind: what they are lent, and how their words are read. */
 function kinds(steps, memories, exports) {
   const lent = (...names) => names.map((name) => memories.named(name)).flatMap((part) => [part.address, BigInt(part.length)]);
+  const undrawn = (length) => new Uint8Array(length).fill(UNDRAWN);
+  /** Room for what a call gives out. */
+  const makeRoom = () => {
+    const out = memories.named("out");
+    out.length = steps.short();
+    memories.put(out, 0, undrawn(out.length));
+  };
+  const line = (kind, ...words) => {
+    makeRoom();
+    return [`line of ${kind} ${words}`, () => exports[`gulxinett_record_${kind}`](...words, ...lent("out"))];
+  };
   return [
     () => ["reset", () => exports.gulxinett_reset(...lent("state"))],
     () => {
@@ -113,8 +126,18 @@ function kinds(steps, memories, exports) {
     () => {
       const [frame, registers, picture] = [NAMES[steps.byte()], memories.named("registers"), memories.named("picture")];
       memories.put(registers, 0, steps.take(ROOM.registers));
-      memories.put(picture, 0, new Uint8Array(ROOM.picture).fill(UNDRAWN));
+      memories.put(picture, 0, undrawn(ROOM.picture));
       return [`picture of ${frame}`, () => exports.gulxinett_picture(...lent(frame), registers.address, picture.address)];
+    },
+    () => line("reset"),
+    () => line("read", steps.short()),
+    () => line("write", steps.short(), steps.byte()),
+    () => line("tick", steps.word()),
+    () => {
+      const [number, row] = [steps.byte(), memories.named("row")];
+      row.length = steps.short();
+      memories.put(row, 0, steps.take(row.length));
+      return line("row", number, ...lent("row"));
     },
   ];
 }

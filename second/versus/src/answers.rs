@@ -1,25 +1,29 @@
 //! The calls with the second program's answers, as a stream that another caller of the module
 //! replays.
 //!
-//! Both sides keep the six memories in the order of [`memories`], each of them zeros at first, with
+//! Both sides keep the seven memories in the order of [`memories`], each of them zeros at first, with
 //! a length that is in use. Then come steps, numbers little-endian:
 //!
 //! - [`LENT`], which memory, its length as 4 bytes, a patch: it is lent so from here on;
-//! - the kind of a call 0 to 5 and its words, the answer as 8 bytes, how many memories it changed,
-//!   and of each which one and a patch. Before a picture is drawn its memory is all [`UNDRAWN`];
+//! - the kind of a call 0 to 10 and its words, the answer as 8 bytes, how many memories it changed,
+//!   and of each which one and a patch. The memory of what a call gives out, a picture or a line, is
+//!   all [`UNDRAWN`] before;
 //! - [`END`] and how many calls there were, as 8 bytes.
 //!
 //! A patch is a place and a count of bytes, 4 bytes each, and the bytes.
 
 use crate::call::{Call, Lent};
 use crate::sides::{Side, UNDRAWN};
+use second::Frame;
 use std::fs::File;
 use std::io::{Result, Write};
 
 const LENT: u8 = 0xFF;
 const END: u8 = 0xFE;
-/// Which of the memories is the picture.
+/// Which of the memories is the picture, the first that a call gives out.
 const PICTURE: usize = 5;
+/// Which is whatever else is given out.
+const OUT: usize = 6;
 /// How many bytes of steps are written at once.
 const PIECE: usize = 1 << 20;
 
@@ -29,12 +33,12 @@ pub struct Answers {
     /// Steps not yet written, and whether those before them were.
     steps: Vec<u8>,
     written: Result<()>,
-    memories: [Vec<u8>; 6],
-    lengths: [usize; 6],
+    memories: [Vec<u8>; 7],
+    lengths: [usize; PICTURE],
     calls: u64,
 }
 
-fn memories(side: &Side) -> [&[u8]; 6] {
+fn memories(side: &Side) -> [&[u8]; 7] {
     [
         &side.state,
         &side.rom,
@@ -42,6 +46,7 @@ fn memories(side: &Side) -> [&[u8]; 6] {
         &side.store,
         &side.image,
         &side.picture,
+        &side.out,
     ]
 }
 
@@ -53,12 +58,12 @@ impl Answers {
             steps: Vec::new(),
             written: Ok(()),
             memories: Default::default(),
-            lengths: [0; 6],
+            lengths: [0; PICTURE],
             calls: 0,
         })
     }
 
-    /// Notes what a call is lent that was not lent before; the picture is the call's own.
+    /// Notes what a call is lent that was not lent before.
     pub fn lend(&mut self, side: &Side) {
         for (what, &bytes) in memories(side)[..PICTURE].iter().enumerate() {
             let patch = self.patch(what, bytes);
@@ -78,13 +83,17 @@ impl Answers {
         self.steps.extend(answer.to_le_bytes());
         let count = self.steps.len();
         self.steps.push(0);
-        let mut seen = PICTURE;
-        if let Call::Picture { .. } = call {
-            self.memories[PICTURE] = vec![UNDRAWN; after.picture.len()];
-            seen += 1;
+        let given_out = match call {
+            Call::Picture { .. } => Some(PICTURE),
+            Call::Record { .. } => Some(OUT),
+            _ => None,
+        };
+        let bytes = memories(after);
+        if let Some(what) = given_out {
+            self.memories[what] = vec![UNDRAWN; bytes[what].len()];
         }
-        for (what, &bytes) in memories(after)[..seen].iter().enumerate() {
-            if let Some(patch) = self.patch(what, bytes) {
+        for what in (0..PICTURE).chain(given_out) {
+            if let Some(patch) = self.patch(what, bytes[what]) {
                 self.steps[count] += 1;
                 self.steps.push(what as u8);
                 self.put(patch);
@@ -134,8 +143,37 @@ impl Answers {
                     .extend([5, if *of == Lent::Image { 4 } else { 3 }]);
                 self.steps.extend(&registers[..]);
             }
+            Call::Record { frame, room } => {
+                self.frame(frame);
+                self.steps.extend((*room as u16).to_le_bytes());
+            }
             Call::Image { .. } | Call::Lend { .. } | Call::Put { .. } => {
                 unreachable!("what is lent is no call")
+            }
+        }
+    }
+
+    /// The kind and the words of a frame that is written as a line.
+    fn frame(&mut self, frame: &Frame<Box<[u8]>>) {
+        match frame {
+            Frame::Reset => self.steps.push(6),
+            Frame::Read { address } => {
+                self.steps.push(7);
+                self.steps.extend(address.to_le_bytes());
+            }
+            Frame::Write { address, value } => {
+                self.steps.push(8);
+                self.steps.extend(address.to_le_bytes());
+                self.steps.push(*value);
+            }
+            Frame::Tick { cycles } => {
+                self.steps.push(9);
+                self.steps.extend(cycles.to_le_bytes());
+            }
+            Frame::Row { row, pixels } => {
+                self.steps.extend([10, *row]);
+                self.steps.extend((pixels.len() as u16).to_le_bytes());
+                self.steps.extend(&pixels[..]);
             }
         }
     }

@@ -1,5 +1,6 @@
 //! What a history is made of.
 
+use second::Frame;
 use std::fmt;
 
 /// Memory the caller lends.
@@ -30,6 +31,11 @@ pub enum Call {
     Picture {
         of: Lent,
         registers: Box<[u8; 54]>,
+    },
+    /// A frame written as a line into so many bytes.
+    Record {
+        frame: Frame<Box<[u8]>>,
+        room: usize,
     },
     /// Another image is lent from here on.
     Image {
@@ -73,6 +79,7 @@ impl fmt::Display for Call {
             Call::Picture { of, registers } => {
                 write!(f, "picture of {of:?} under {}", hex(&registers[..]))
             }
+            Call::Record { frame, room } => write!(f, "{frame:?} recorded in {room} bytes"),
             Call::Image { kind, seed } => write!(f, "image of kind {kind}, seed {seed}"),
             Call::Lend { what, length } => write!(f, "lend {what:?} of {length} bytes"),
             Call::Put { record } => write!(f, "state {}", hex(record)),

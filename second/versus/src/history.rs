@@ -2,6 +2,7 @@
 
 use crate::answers::Answers;
 use crate::call::{Call, Lent};
+use crate::lines;
 use crate::random::Random;
 use crate::sides::{Beginning, Pair};
 use second::{State, Timing};
@@ -123,7 +124,8 @@ impl<'a> History<'a> {
                 13..=14 => return Call::Reset,
                 15..=17 => return self.picture(),
                 18..=30 => return self.image(),
-                31..=80 => return Call::Inspect,
+                31..=70 => return Call::Inspect,
+                71..=80 => return self.record(),
                 81..=480 => {
                     return Call::Read {
                         address: self.address(),
@@ -223,6 +225,15 @@ impl<'a> History<'a> {
         Call::Picture {
             of,
             registers: Box::new(registers),
+        }
+    }
+
+    /// A frame as a line, in a buffer that it may not fit.
+    fn record(&mut self) -> Call {
+        let kind = self.random.below(5) as u8;
+        Call::Record {
+            frame: lines::frame(self.random, kind),
+            room: self.random.below(lines::MOST_ROOM as u32 + 1) as usize,
         }
     }
 

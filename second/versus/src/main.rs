@@ -11,6 +11,7 @@
 mod answers;
 mod call;
 mod history;
+mod lines;
 mod random;
 mod script;
 mod shrink;
@@ -104,6 +105,7 @@ fn compare(calls: u64, seed: u64, answers: Option<Answers>) -> Option<Option<Ans
         "picture settings: {} calls compared",
         tally.compared - refusals
     );
+    compare_lines(&mut tally, &mut random);
     tally
         .differences
         .iter()
@@ -128,6 +130,17 @@ fn compare(calls: u64, seed: u64, answers: Option<Answers>) -> Option<Option<Ans
         start.elapsed().as_secs_f64()
     );
     (differences == 0).then_some(tally.answers)
+}
+
+/// Frames written as lines: some with all that is lent around them, and every one there is.
+fn compare_lines(tally: &mut Tally, random: &mut Random) {
+    let before = tally.compared;
+    sweep::lines(tally, random);
+    match lines::compare(random) {
+        Ok(compared) => tally.compared += compared,
+        Err(difference) => tally.differences.push(difference),
+    }
+    println!("lines written: {} calls compared", tally.compared - before);
 }
 
 /// Where a list of calls makes the sides part, if it does.

@@ -3,9 +3,9 @@
 use crate::call::{hex, Call, Lent};
 use crate::random::Random;
 use gulxinett::bytes;
-use second::State;
+use second::{Frame, State};
 
-/// What the picture's bytes hold before a call draws it.
+/// What the bytes of a picture, or of what else a call gives out, hold before.
 pub const UNDRAWN: u8 = 0xA5;
 
 /// A refusal as the interface answers it.
@@ -22,6 +22,29 @@ pub struct Side {
     pub store: Vec<u8>,
     pub image: Vec<u8>,
     pub picture: [u8; 3584],
+    /// The bytes that a call gave out.
+    pub out: Vec<u8>,
+}
+
+/// Writes a frame as a line through the archive.
+pub fn record_archive(frame: &Frame<impl AsRef<[u8]>>, out: &mut [u8]) -> u64 {
+    let answer = match frame {
+        Frame::Reset => bytes::record_reset(out),
+        Frame::Read { address } => bytes::record_read(*address, out),
+        Frame::Write { address, value } => bytes::record_write(*address, *value, out),
+        Frame::Tick { cycles } => bytes::record_tick(*cycles, out),
+        Frame::Row { row, pixels } => bytes::record_row(*row, pixels.as_ref(), out),
+    };
+    answer.0
+}
+
+/// Writes a frame as a line through the second program, answering as the interface does.
+pub fn record_second(frame: &Frame<impl AsRef<[u8]>>, out: &mut [u8]) -> u64 {
+    let written = frame.write_line(out);
+    written.map_or_else(
+        |refusal| refused(refusal.number().into()),
+        |length| length as u64,
+    )
 }
 
 impl Side {
@@ -44,8 +67,18 @@ impl Side {
         }
     }
 
+    /// Room for what a call gives out, none of it written.
+    fn make_room(&mut self, room: usize) -> &mut [u8] {
+        self.out.clear();
+        self.out.resize(room, UNDRAWN);
+        &mut self.out
+    }
+
     /// Calls the archive.
     pub fn call_archive(&mut self, call: &Call) -> u64 {
+        if let Call::Record { frame, room } = call {
+            return record_archive(frame, self.make_room(*room));
+        }
         let Side {
             state,
             rom,
@@ -53,6 +86,7 @@ impl Side {
             store,
             image,
             picture,
+            ..
         } = self;
         let answer = match call {
             Call::Reset => bytes::reset(state),
@@ -79,6 +113,9 @@ impl Side {
         }
         if let Call::Picture { of, registers } = call {
             return self.draw_second(*of, registers);
+        }
+        if let Call::Record { frame, room } = call {
+            return record_second(frame, self.make_room(*room));
         }
         let Some(mut state) = State::from_bytes(&self.state) else {
             return refused(1);
@@ -189,6 +226,7 @@ impl Pair {
             store: noise(16_384),
             image: noise(16_384),
             picture: [0; 3584],
+            out: Vec::new(),
         };
         Pair {
             archive: side.clone(),
@@ -232,6 +270,7 @@ impl Pair {
                 ("store", &a.store, &b.store),
                 ("picture", &a.picture, &b.picture),
             ],
+            Call::Record { .. } => &[("line", &a.out, &b.out)],
             _ => &[],
         };
         let state = parted("state", &a.state, &b.state)

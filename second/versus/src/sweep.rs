@@ -2,9 +2,10 @@
 
 use crate::answers::Answers;
 use crate::call::{Call, Lent};
+use crate::lines;
 use crate::random::Random;
 use crate::sides::{paint, parted, refused, Beginning, Pair, Side};
-use second::State;
+use second::{Frame, State};
 
 /// Something to lend or give, and whether it is to be refused.
 type Choice<T> = (T, bool);
@@ -36,7 +37,8 @@ impl Tally {
             .or_else(|| parted("RAM", &archive.ram, &second.ram))
             .or_else(|| parted("store", &archive.store, &second.store))
             .or_else(|| parted("image", &archive.image, &second.image))
-            .or_else(|| parted("picture", &archive.picture, &second.picture));
+            .or_else(|| parted("picture", &archive.picture, &second.picture))
+            .or_else(|| parted("bytes given out", &archive.out, &second.out));
         if answers[0] == answers[1] && due_now && parting.is_none() {
             return;
         }
@@ -186,6 +188,7 @@ pub fn refusals(tally: &mut Tally) {
             store: empty(),
             image: empty(),
             picture: [0; 3584],
+            out: empty(),
         };
         let due = (side.state.len() != 116).then_some(1);
         tally.compare(&side, &Call::Reset, due);
@@ -280,6 +283,38 @@ fn sweep_frames(tally: &mut Tally) {
             registers,
         };
         tally.compare(&side, &call, lowest(&[(4, no_frame)]));
+    }
+}
+
+/// Frames of every kind as lines, in buffers long enough and too short, and rows that are none.
+pub fn lines(tally: &mut Tally, random: &mut Random) {
+    let side = Pair::new(&Beginning {
+        rom_banks: 1,
+        ram_banks: 1,
+        seed: 4,
+    })
+    .archive;
+    let mut compare = |frame: Frame<Box<[u8]>>, room, wrong| {
+        let length = lines::length(&frame);
+        let due = lowest(&[(6, wrong), (7, room < length)]);
+        tally.compare(&side, &Call::Record { frame, room }, due);
+    };
+    for room in 0..=lines::MOST_ROOM {
+        for kind in 0..5 {
+            compare(lines::frame(random, kind), room, false);
+        }
+    }
+    for row in 0..=255 {
+        for length in [0, 1, 127, 128, 129, 130] {
+            for room in [0, 260, 261, 262] {
+                let pixels = lend(length).into();
+                compare(
+                    Frame::Row { row, pixels },
+                    room,
+                    row > 0x7F || length != 128,
+                );
+            }
+        }
     }
 }
 
