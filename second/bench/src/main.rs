@@ -6,6 +6,7 @@
 
 #![forbid(unsafe_code)]
 
+mod lines;
 mod machines;
 mod script;
 mod timing;
@@ -62,9 +63,11 @@ impl Bench {
         timing::head();
         let captures = self.measure_captures();
         self.measure_small();
+        let lines = lines::measure(self.effort);
         script::compare(proved, second, self.effort)?;
         println!();
         captures.iter().for_each(|line| println!("{line}"));
+        lines.iter().for_each(|line| println!("{line}"));
         println!("the real cartridge makes {REAL:.0} captures a second at most");
         Ok(())
     }
