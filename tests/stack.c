@@ -12,6 +12,7 @@
 
 static uint8_t state[GULXINETT_STATE_LEN], rom[GULXINETT_ROM_BANK_LEN], ram[GULXINETT_RAM_BANK_LEN];
 static uint8_t store[GULXINETT_FRAME_LEN], image[GULXINETT_FRAME_LEN], picture[GULXINETT_PICTURE_LEN];
+static uint8_t line[GULXINETT_LINE_LEN];
 static uint8_t room[ROOM];
 static ucontext_t here, there;
 
@@ -27,6 +28,16 @@ static void tick(uint32_t cycles)
 
 static void nothing(void)
 {
+}
+
+/* A line of each kind. */
+static void record(void)
+{
+    gulxinett_record_reset(line, sizeof line);
+    gulxinett_record_read(0xA100, line, sizeof line);
+    gulxinett_record_write(0xA000, 3, line, sizeof line);
+    gulxinett_record_tick(UINT32_MAX, line, sizeof line);
+    gulxinett_record_row(0x7F, image, GULXINETT_ROW_LEN, line, sizeof line);
 }
 
 /* A capture in each mode, some of it pixel by pixel, and every other call. */
@@ -46,6 +57,7 @@ static void everything(void)
         write_byte(0x4000, 0);
         gulxinett_read(state, sizeof state, rom, sizeof rom, ram, sizeof ram, 0xA100);
         gulxinett_read(state, sizeof state, rom, sizeof rom, ram, sizeof ram, 0x0000);
+        record();
     }
 }
 

@@ -1,7 +1,7 @@
 // The browser module with a cartridge's parts lent to it, for tests and the bench.
 import { readFileSync } from "node:fs";
 
-const SIZES = { state: 116, ram: 8192, store: 16384, image: 16384, registers: 54, picture: 3584 };
+const SIZES = { state: 116, ram: 8192, store: 16384, image: 16384, registers: 54, picture: 3584, line: 261 };
 const PAGE = 65536;
 const TRIGGER = 0xa000;
 
@@ -40,6 +40,15 @@ export function lend(path) {
     tick: (cycles) => value(call.gulxinett_tick(...lent("state", "ram", "store"), cycles)),
     inspect: () => value(call.gulxinett_inspect(...lent("state"))),
     picture: () => value(call.gulxinett_picture(...lent("image"), at.registers, at.picture)),
+    /** A line of each kind. */
+    record() {
+      const room = lent("line");
+      value(call.gulxinett_record_reset(...room));
+      value(call.gulxinett_record_read(TRIGGER, ...room));
+      value(call.gulxinett_record_write(TRIGGER, 3, ...room));
+      value(call.gulxinett_record_tick(0xffffffff, ...room));
+      value(call.gulxinett_record_row(0x7f, at.image, 128n, ...room));
+    },
     /** Reset, then the registers of a mode, at 75 per cent and exposure 0100h, with a rising matrix. */
     prepare(mode) {
       value(call.gulxinett_reset(...lent("state")));
