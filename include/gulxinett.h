@@ -43,6 +43,7 @@ extern "C" {
 #define GULXINETT_RAM_BANK_LEN 8192
 #define GULXINETT_FRAME_LEN 16384
 #define GULXINETT_PICTURE_LEN 3584
+#define GULXINETT_PLATE_LEN 14351
 
 /* An image row, and the longest script line with its LF, which is a row's. */
 #define GULXINETT_ROW_LEN 128
@@ -114,6 +115,12 @@ uint64_t gulxinett_record_tick(uint32_t cycles, uint8_t *out, size_t out_len);
 uint64_t gulxinett_record_row(uint8_t row,
                               const uint8_t *bytes, size_t bytes_len,
                               uint8_t *out, size_t out_len);
+
+/* Writes the picture area of RAM bank 0 as a grey image, a Netpbm file of kind P5: 128 by 112 pixels,
+ * 14,351 bytes; bytes beyond stay. The RAM is read straight: a half picture is written as it
+ * stands. Refused as 3, then as 7. Value: 14351. */
+uint64_t gulxinett_export(const uint8_t *ram, size_t ram_len,
+                          uint8_t *out, size_t out_len);
 
 #ifdef __cplusplus
 }

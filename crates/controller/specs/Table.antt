@@ -2,10 +2,11 @@
 use mathlib.Core.Bool.{Bool, true, not}
 use mathlib.Core.List.{List, [], _∷_}
 use Prim.Native.Nat.{ℕ, zero, suc}
+use lib.Dec.{ltb}
 use Rattle.laws.specs.Pick.{pick}
 use Rattle.controller.specs.declared.Controller.{Controller}
 use Rattle.controller.specs.declared.Refusal.{Refusal}
-use Rattle.controller.specs.declared.Refusal.the-variants.{State, Rom, Ram, Frame, Address}
+use Rattle.controller.specs.declared.Refusal.the-variants.{State, Rom, Ram, Frame, Address, Room}
 use Rattle.controller.specs.Lent.{romAllowed, ramAllowed, frameAllowed}
 use Rattle.controller.specs.State.{cantExist}
 use Rattle.controller.specs.Outcome.{numberOf}
@@ -38,6 +39,10 @@ noFrame length = row Frame (not (frameAllowed length))
 -- 5: address is outside 0000-7FFF and A000-BFFF
 abbrev pub noPlace : ℕ → Row
 noPlace address = row Address (not (onCartridge address))
+
+-- 7: a lent buffer is shorter than what is to be written
+abbrev pub noRoom : ℕ → ℕ → Row
+noRoom bytes length = row Room (ltb length bytes)
 
 -- a row's number where it holds, and else the number that the rows after it give
 abbrev pub before : Row → ℕ → ℕ

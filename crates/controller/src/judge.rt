@@ -9,7 +9,7 @@ ghost use mathlib.Core.Bool.{Bool, not};
 ghost use lib.ListN.{length};
 ghost use Rattle.controller.specs.Outcome.{numberOf, verdictNumber};
 ghost use Rattle.controller.specs.Bus.{onCartridge};
-ghost use Rattle.controller.specs.Table.{row, noState, noRom, noRam, noFrame, noPlace, before};
+ghost use Rattle.controller.specs.Table.{row, noState, noRom, noRam, noFrame, noPlace, noRoom, before};
 
 impl Refusal {
     // The number of a refusal.
@@ -46,14 +46,14 @@ pub(crate) fn no_rom(len: usize, rest: Verdict) -> Verdict
 }
 
 // 3: RAM length is not allowed.
-pub(crate) fn no_ram(len: usize, rest: Verdict) -> Verdict
+pub fn no_ram(len: usize, rest: Verdict) -> Verdict
     ensures { λ r. ⌜ verdictNumber r ≡ before (noRam len) (verdictNumber rest) ⌝ }
 {
     refused_if(!ram_allowed(len), Refusal::Ram, rest)
 }
 
 // 4: image or frame store is not 16,384 bytes.
-pub(crate) fn no_frame(len: usize, rest: Verdict) -> Verdict
+pub fn no_frame(len: usize, rest: Verdict) -> Verdict
     ensures { λ r. ⌜ verdictNumber r ≡ before (noFrame len) (verdictNumber rest) ⌝ }
 {
     refused_if(len != Controller::FRAME, Refusal::Frame, rest)
@@ -79,9 +79,16 @@ pub(crate) fn no_place(address: u16, rest: Verdict) -> Verdict
     refused_if(!on_cartridge(address), Refusal::Address, rest)
 }
 
+// 7: a lent buffer is shorter than what is to be written.
+pub fn no_room(bytes: usize, len: usize, rest: Verdict) -> Verdict
+    ensures { λ r. ⌜ verdictNumber r ≡ before (noRoom bytes len) (verdictNumber rest) ⌝ }
+{
+    refused_if(len < bytes, Refusal::Room, rest)
+}
+
 impl Controller {
     // 1: the state record can't exist.
-    pub(crate) fn no_state(self, rest: Verdict) -> Verdict
+    pub fn no_state(self, rest: Verdict) -> Verdict
         ensures { λ r. ⌜ verdictNumber r ≡ before (noState self) (verdictNumber rest) ⌝ }
     {
         refused_if(!self.exists(), Refusal::State, rest)

@@ -33,9 +33,11 @@ use Rattle.lines.specs.declared.record.Recorded.{Recorded}
 use Rattle.lines.specs.declared.record.Recorded.the-variants as answers
 use Rattle.lines.specs.Record.{Recording, recorded, recordMeans}
 use Rattle.lines.proofs.Recorded.{record-most}
+use Rattle.plates.specs.declared.grey.Output.{Output}
+use Rattle.plates.specs.Grey.{exported, outputNumber, outputValue, exportMeans}
 use Rattle.embed.specs.Layout.{encoded, isRecord, decoded}
 use Rattle.embed.specs.Packed.{packed}
-use Rattle.embed.specs.Exports.{called, asBytes, noRecord, unread, resetBytes, readBytes, writeBytes, tickBytes, inspected, inspectBytes, filled, asDrawn, pictureBytes, asLine, recordBytes}
+use Rattle.embed.specs.Exports.{called, asBytes, noRecord, unread, resetBytes, readBytes, writeBytes, tickBytes, inspected, inspectBytes, filled, asDrawn, pictureBytes, asLine, recordBytes, asWritten, exportBytes}
 use Rattle.embed.proofs.Inverse.{encode-decode}
 
 -- an outcome with a number hands back the state given and changes no byte lent
@@ -192,3 +194,10 @@ module _ (f : Frame) (bytes out : List ℕ) (a : Recorded) (left : List ℕ) (me
   pub record-filled : (p : ℕ) → p ≡ asLine (recorded a []) .answer → filled p left ≡ recordBytes f bytes out
   unfolding recordBytes
   record-filled p q = ap (λ n. filled n left) q ∙ recorded-answer a left ∙ ap asLine means
+
+-- ---- the picture area as a grey image
+
+module _ (ram out : List ℕ) (r : Output) (left : List ℕ) (means : exported (outputNumber r) (outputValue r) left ≡ exportMeans ram out) where
+  pub export-written : (x : Output) → r ≡ x → (p : ℕ) → p ≡ packed (outputNumber x) (outputValue x) → filled p left ≡ exportBytes ram out
+  unfolding exportBytes
+  export-written x f p q = (λ i. filled (q i) left) ∙ ap asWritten (ap (λ y. exported (outputNumber y) (outputValue y) left) (sym f) ∙ means)

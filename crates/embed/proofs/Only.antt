@@ -21,9 +21,10 @@ use Rattle.controller.proofs.Refusals.{Refuses, inOutcome, read-refuses, write-
 use Rattle.lines.specs.declared.line.Frame.{Frame}
 use Rattle.lines.specs.Record.{recordMeans}
 use Rattle.lines.proofs.Recorded.{record-most}
+use Rattle.plates.specs.Grey.{Exported, exportRows, exportMeans}
 use Rattle.embed.specs.Layout.{isRecord, decoded}
 use Rattle.embed.specs.Packed.{packed}
-use Rattle.embed.specs.Exports.{readBytes, writeBytes, tickBytes, elementValue, inspectBytes, recordBytes}
+use Rattle.embed.specs.Exports.{readBytes, writeBytes, tickBytes, elementValue, inspectBytes, recordBytes, exportBytes}
 use Rattle.embed.proofs.Cases.{read-done, write-done, tick-done, inspect-done}
 
 -- the number stands above 2^32, and the value below
@@ -103,3 +104,12 @@ inspect-says s h = rw (inspect-done s h) (packed-says _ _ (inspect-small (decode
 pub record-says : (f : Frame) (bytes out : List ℕ) → Says (recordBytes f bytes out .answer) (recordMeans f bytes out .number) (recordMeans f bytes out .length)
 unfolding recordBytes
 record-says f bytes out = packed-says _ _ (omega (arith, record-most f bytes out))
+
+-- an export's answer
+export-small : (ram out : List ℕ) → exportMeans ram out .value < 4294967296
+unfolding exportMeans
+export-small ram out = judged-ind (λ (e : Exported). e .value < 4294967296) (lowest (exportRows ram out)) (λ k. omega arith) (omega arith)
+
+pub export-says : (ram out : List ℕ) → Says (exportBytes ram out .answer) (exportMeans ram out .number) (exportMeans ram out .value)
+unfolding exportBytes
+export-says ram out = packed-says _ _ (export-small ram out)

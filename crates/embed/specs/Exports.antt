@@ -12,6 +12,7 @@ use Rattle.controller.specs.Inspect.{inspectMeans}
 use Rattle.controller.specs.Picture.{Afresh, pictureMeans}
 use Rattle.lines.specs.declared.line.Frame.{Frame}
 use Rattle.lines.specs.Record.{Recording, recordMeans}
+use Rattle.plates.specs.Grey.{Exported, exportMeans}
 use Rattle.embed.specs.Layout.{encoded, isRecord, decoded}
 use Rattle.embed.specs.Packed.{packed}
 
@@ -83,3 +84,11 @@ asLine r = filled (packed (r .number) (r .length)) (r .out)
 -- a frame written as a line, with an image row's bytes, into a lent buffer
 unfoldable pub recordBytes : Frame → List ℕ → List ℕ → Filled
 recordBytes f bytes out = asLine (recordMeans f bytes out)
+
+-- so many bytes written into a lent buffer: the number and the value packed
+abbrev pub asWritten : Exported → Filled
+asWritten e = filled (packed (e .number) (e .value)) (e .bytes)
+
+-- the picture area as a grey image
+unfoldable pub exportBytes : List ℕ → List ℕ → Filled
+exportBytes ram out = asWritten (exportMeans ram out)

@@ -17,9 +17,11 @@ use layout::decode;
 use layout::encode;
 use layout::is_record;
 use layout::wide;
+use plates::grey::Output;
+use plates::grey::export;
 ghost use mathlib.Core.Path.{_≡_};
 ghost use mathlib.Core.List.{[]};
-ghost use Rattle.embed.specs.Exports.{called, resetBytes, readBytes, writeBytes, tickBytes, inspectBytes, filled, pictureBytes};
+ghost use Rattle.embed.specs.Exports.{called, resetBytes, readBytes, writeBytes, tickBytes, inspectBytes, filled, pictureBytes, exportBytes};
 
 // Writes the reset record.
 #[no_mangle]
@@ -125,5 +127,17 @@ pub extern "C" fn gulxinett_picture(
     match answer {
         WriteAnswer::Done => pack(0, 0),
         WriteAnswer::Refused(why) => refused(why),
+    }
+}
+
+// Writes the picture area as a grey image, a Netpbm file of kind P5.
+#[no_mangle]
+pub extern "C" fn gulxinett_export(ram: &[u8], out: &mut [u8]) -> u64
+    ensures { λ r. ⌜ filled r (now (out .exit)) ≡ exportBytes (now (ram .entry)) (now (out .entry)) ⌝ }
+{
+    let answer = export(ram, out);
+    match answer {
+        Output::Bytes(n) => pack(0, n),
+        Output::Refused(why) => refused(why),
     }
 }

@@ -20,6 +20,8 @@ use Rattle.tiles.proofs.Run.{pixels-none}
 use Rattle.controller.proofs.Range.{done-all, done-most}
 use Rattle.tiles.proofs.Pixels.{pixels-bytes}
 use Rattle.tiles.proofs.Area.{area-whole}
+use Rattle.plates.specs.Grey.{plateOf, plateAfresh}
+use Rattle.plates.proofs.Same.{afresh-plate}
 use Rattle.history.specs.History.{Call, reset, read, write, tick, inspect, World, fresh, leaves, after, counted}
 use Rattle.history.specs.Track.{Track, tickAccepted, runsIn, starts, ends, imageIn, registersAt, lands, landsAt, byteIn, next, told}
 use Rattle.history.specs.Since.{Whole, inArea, ofPixel, clear, noStart, bytesIn}
@@ -158,6 +160,20 @@ picture ram store before start between last h c first bytes =
     let a : (y * 128 + x) % 128 ≡ x = omega arith in
     let b : (y * 128 + x) / 128 ≡ y = omega arith in
     rw (whole-world ram store before start between last h) (rw (a, b) at (pixel-done ram store before start between last h c (y * 128 + x) (omega arith))))
+
+-- Plate: the file exported of such a plate is the file of the picture afresh
+pub plate : (ram store : List ℕ) (before : List Call) (start : Call) (between : List Call) (last : Call)
+    → Whole (told ram store before) start between last
+    → clear inArea (next (told ram store before) start) between ≡ true
+    → Bytes ram
+    → bytesIn (before ++ (start ∷ (between ++ (last ∷ [])))) ≡ true
+    → plateOf (after (fresh ram store) (before ++ (start ∷ (between ++ (last ∷ [])))) .ram) ≡ plateAfresh (imageIn start) (registersAt (told ram store before) start)
+plate ram store before start between last h c first bytes =
+    let calls = before ++ (start ∷ (between ++ (last ∷ []))) in
+    afresh-plate (imageIn start) (registersAt (told ram store before) start) (after (fresh ram store) calls .ram)
+    (rw (same-size ram store calls) (long-ram ram store before start (h .held .begins)))
+    (bytes-after calls _ (fresh ram store) (at-reset ram store) bytes first)
+    (picture ram store before start between last h c first bytes)
 
 -- ---- and there it stays
 

@@ -1,0 +1,4 @@
+-- Laws of plates as files.
+pub mod Plates
+pub mod Exports
+pub mod Same

@@ -1,0 +1,3 @@
+-- Plates as files, in the requests' order.
+pub mod Grey
+pub mod Eight

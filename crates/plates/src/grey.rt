@@ -1,0 +1,110 @@
+// The picture area as a Netpbm file of kind P5, whether or not a capture is running.
+use controller::Refusal;
+use controller::Verdict;
+use controller::judge::no_ram;
+use controller::judge::no_room;
+ghost use mathlib.Core.Path.{_≡_};
+ghost use mathlib.Core.List.{_++_};
+ghost use Prim.Native.Nat.{ℕ, _+_, _*_, _<_, _≤_};
+ghost use lib.ListN.{length, drop};
+ghost use Rattle.laws.specs.Lists.{listed};
+ghost use Rattle.controller.specs.Outcome.{verdictNumber};
+ghost use Rattle.controller.specs.Table.{lowest};
+ghost use Rattle.plates.specs.Grey.{header, greyOf, greyAt, plateOf, outputNumber, outputValue, exported, exportRows, exportMeans};
+ghost use Rattle.plates.specs.Eight.{eightOf};
+
+// What a file starts with: kind, columns, rows and largest value.
+const HEADER: [u8; 15] = *b"P5\n128 112\n255\n";
+// The bytes of a file.
+pub const FILE: usize = 14351;
+
+// How many bytes were written, or why none.
+pub enum Output {
+    Bytes(u32),
+    Refused(Refusal),
+}
+
+// The grey of a shade's two bits.
+fn grey(low: u8, high: u8) -> u8
+    requires { ⌜ (low < 2) × (high < 2) ⌝ }
+    ensures { λ r. ⌜ r ≡ greyOf (low + 2 * high) ⌝ }
+{
+    255 - 85 * (low + 2 * high)
+}
+
+// The greys of eight pixels of a row, from their low bits and their high bits.
+fn greys(low: u8, high: u8) -> [u8; 8]
+    ensures { λ r. ⌜ r ≡ listed (eightOf low high) 8 ⌝ }
+{
+    [
+        grey(low / 128 % 2, high / 128 % 2),
+        grey(low / 64 % 2, high / 64 % 2),
+        grey(low / 32 % 2, high / 32 % 2),
+        grey(low / 16 % 2, high / 16 % 2),
+        grey(low / 8 % 2, high / 8 % 2),
+        grey(low / 4 % 2, high / 4 % 2),
+        grey(low / 2 % 2, high / 2 % 2),
+        grey(low / 1 % 2, high / 1 % 2),
+    ]
+}
+
+// Eight pixels, from number 8 * i on, of the two bytes they stand in.
+fn eight_at(ram: &[u8], i: usize) -> [u8; 8]
+    requires { ⌜ (8192 ≤ length (now ram)) × (i < 1792) ⌝ }
+    ensures { λ r. ⌜ r ≡ listed (λ b. greyAt (now (ram .entry)) (8 * i + b)) 8 ⌝ }
+{
+    let y = i / 16;
+    let o = tiles::PICTURE + 16 * (16 * (y / 8) + i % 16) + 2 * (y % 8);
+    greys(ram[o], ram[o + 1])
+}
+
+// All pixels, row by row, eight at a time.
+fn put_pixels(ram: &[u8], pixels: &mut [u8])
+    requires { ⌜ (8192 ≤ length (now ram)) × (length (now pixels) ≡ 14336) ⌝ }
+    ensures { λ _. ⌜ now (pixels .exit) ≡ listed (greyAt (now (ram .entry))) 14336 ⌝ }
+{
+    for i in 0..1792 {
+        let eight = eight_at(ram, i);
+        for b in 0..8 {
+            pixels[8 * i + b] = eight[b];
+        }
+    }
+}
+
+// The header's bytes.
+fn put_header(out: &mut [u8])
+    requires { ⌜ length (now out) ≡ 15 ⌝ }
+    ensures { λ _. ⌜ now (out .exit) ≡ header ⌝ }
+{
+    for k in 0..15 {
+        out[k] = HEADER[k];
+    }
+}
+
+// The file, at the start of a buffer that has room for it.
+fn put_file(ram: &[u8], out: &mut [u8])
+    requires { ⌜ (8192 ≤ length (now ram)) × (14351 ≤ length (now out)) ⌝ }
+    ensures { λ _. ⌜ now (out .exit) ≡ plateOf (now (ram .entry)) ++ drop 14351 (now (out .entry)) ⌝ }
+{
+    put_header(&mut out[0..15]);
+    put_pixels(ram, &mut out[15..14351]);
+}
+
+// What an export was lent, judged.
+fn judge_export(ram: &[u8], out: &[u8]) -> Verdict
+    ensures { λ r. ⌜ verdictNumber r ≡ lowest (exportRows (now (ram .entry)) (now (out .entry))) ⌝ }
+{
+    no_ram(ram.len(), no_room(FILE, out.len(), Verdict::Fits))
+}
+
+// The picture area as a file, in a lent buffer, whose later bytes stay.
+pub fn export(ram: &[u8], out: &mut [u8]) -> Output
+    ensures { λ r. ⌜ exported (outputNumber r) (outputValue r) (now (out .exit)) ≡ exportMeans (now (ram .entry)) (now (out .entry)) ⌝ }
+{
+    let verdict = judge_export(ram, out);
+    if let Verdict::Refused(why) = verdict {
+        return Output::Refused(why);
+    }
+    put_file(ram, out);
+    Output::Bytes(14351)
+}
