@@ -1,9 +1,7 @@
 //! The calls: bus reads and writes, the passing of cycles, and matrix inspection.
 
-use crate::{
-    picture, Refusal, State, Timing, FRAME_BYTES, PLATE_BYTES, PLATE_OFFSET, RAM_BANK, REGISTERS,
-    ROM_BANK,
-};
+use crate::picture::PLATE_AREA;
+use crate::{picture, Refusal, State, Timing, FRAME_BYTES, RAM_BANK, REGISTERS, ROM_BANK};
 
 const WINDOW: u16 = 0xA000;
 const REGISTER_MIRROR: usize = 0x80;
@@ -41,7 +39,7 @@ fn check_rom(rom: &[u8]) -> Result<(), Refusal> {
 }
 
 /// Refuses a RAM length that is not allowed.
-fn check_ram(ram: &[u8]) -> Result<(), Refusal> {
+pub(crate) fn check_ram(ram: &[u8]) -> Result<(), Refusal> {
     banked(ram.len(), RAM_BANK, 16)
         .then_some(())
         .ok_or(Refusal::Ram)
@@ -154,7 +152,7 @@ pub fn tick(state: &mut State, ram: &mut [u8], store: &[u8], cycles: u32) -> Res
     let timing = Timing::of(&state.taken);
     let from = state.elapsed;
     let to = from.saturating_add(cycles).min(timing.total());
-    let plate = &mut ram[PLATE_OFFSET..PLATE_OFFSET + PLATE_BYTES];
+    let plate = &mut ram[PLATE_AREA];
     picture::draw(plate, store, &state.taken, timing.picture_pixels(from, to));
     state.elapsed = to;
     if to == timing.total() {

@@ -13,6 +13,8 @@ pub const PLATE_OFFSET: usize = 0x100;
 /// Bytes of the picture: two bits a pixel.
 pub const PLATE_BYTES: usize = PIXELS / 4;
 
+/// Where its bytes are in RAM.
+pub(crate) const PLATE_AREA: Range<usize> = PLATE_OFFSET..PLATE_OFFSET + PLATE_BYTES;
 /// The sensor row that is picture row 0.
 pub(crate) const FIRST_ROW: usize = 8;
 /// Pixels of the picture.
@@ -24,7 +26,7 @@ pub(crate) const MATRIX: usize = 6;
 pub type Plate = [u8; PLATE_BYTES];
 
 /// Pixels that share two bytes of a tile.
-const OCTET: usize = 8;
+pub(crate) const OCTET: usize = 8;
 /// Edge ratios in quarters: 50, 75, 100, 125, 200, 300, 400 and 500 per cent.
 const RATIOS: [i16; 8] = [2, 3, 4, 5, 8, 12, 16, 20];
 

@@ -2,6 +2,7 @@
 
 mod calls;
 mod figures;
+mod grey;
 mod lines;
 mod random;
 mod slow;
