@@ -66,15 +66,15 @@ function loaded(path) {
 function finish(path) {
   const cartridge = loaded(path);
   const wanted = picture(firstImage, firstRegisters);
-  ensure(!same(cartridge.plate(), wanted), "the picture was whole before the capture ended");
+  ensure(!same(cartridge.area(), wanted), "the picture was whole before the capture ended");
   cartridge.lend(secondImage);
   writeRegisters(cartridge, secondRegisters);
   console.log("finish: resumed with another image and other registers");
   const cycles = cartridge.tick(0xffff_ffff);
   console.log(`finish: the capture ended after ${cycles} more cycles`);
   ensure(cycles === TOTAL - HALF, "that is not the rest of the capture");
-  ensure(same(cartridge.plate(), wanted), "the picture is not that of the first image under the first registers");
-  ensure(!same(cartridge.plate(), picture(secondImage, secondRegisters)), "the picture is that of the second image");
+  ensure(same(cartridge.area(), wanted), "the picture is not that of the first image under the first registers");
+  ensure(!same(cartridge.area(), picture(secondImage, secondRegisters)), "the picture is that of the second image");
   console.log(`finish: all ${PICTURE_BYTES} bytes are those of the first image under the first registers`);
 }
 

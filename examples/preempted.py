@@ -67,16 +67,16 @@ def loaded(path):
 def finish(path):
     cartridge = loaded(path)
     wanted = picture(FIRST_IMAGE, FIRST_REGISTERS)
-    ensure(cartridge.plate() != wanted, "the picture was whole before the capture ended")
+    ensure(cartridge.area() != wanted, "the picture was whole before the capture ended")
     cartridge.lend(SECOND_IMAGE)
     write_registers(cartridge, SECOND_REGISTERS)
     print("finish: resumed with another image and other registers")
     cycles = cartridge.tick(0xFFFF_FFFF)
     print("finish: the capture ended after %d more cycles" % cycles)
     ensure(cycles == TOTAL - HALF, "that is not the rest of the capture")
-    ensure(cartridge.plate() == wanted, "the picture is not that of the first image under the first registers")
+    ensure(cartridge.area() == wanted, "the picture is not that of the first image under the first registers")
     unwanted = picture(SECOND_IMAGE, SECOND_REGISTERS)
-    ensure(cartridge.plate() != unwanted, "the picture is that of the second image")
+    ensure(cartridge.area() != unwanted, "the picture is that of the second image")
     print("finish: all %d bytes are those of the first image under the first registers" % PICTURE_BYTES)
 
 

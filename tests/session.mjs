@@ -94,6 +94,7 @@ class Session {
   look() {
     this.cartridge.inspect();
     this.cartridge.picture();
+    this.cartridge.area();
     this.cartridge.plate();
     this.cartridge.save();
   }
@@ -105,8 +106,8 @@ class Session {
     this.write(0x4000, 0);
     const before = this.answers.length;
     for (let place = 0; place < PICTURE_BYTES; place++) this.read(AREA + place);
-    const plate = Array.from(this.cartridge.plate(), (byte) => hex(byte, 4));
-    if (this.answers.slice(before).join() !== plate.join()) throw new Error("the bytes read are not the plate");
+    const area = Array.from(this.cartridge.area(), (byte) => hex(byte, 4));
+    if (this.answers.slice(before).join() !== area.join()) throw new Error("the bytes read are not the plate");
   }
 }
 

@@ -100,6 +100,7 @@ class Session:
         """What only looks is no call of a script."""
         self.cartridge.inspect()
         self.cartridge.picture()
+        self.cartridge.area()
         self.cartridge.plate()
         self.cartridge.save()
 
@@ -111,7 +112,7 @@ class Session:
         before = len(self.answers)
         for place in range(PICTURE_BYTES):
             self.read(AREA + place)
-        if self.answers[before:] != ["00%02X" % byte for byte in self.cartridge.plate()]:
+        if self.answers[before:] != ["00%02X" % byte for byte in self.cartridge.area()]:
             sys.exit("session.py: the bytes read are not the plate")
 
 

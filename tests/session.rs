@@ -151,6 +151,7 @@ impl Session {
         picture.expect("the image lent has a picture");
         let element = self.cartridge.inspect();
         element.expect("the state can exist");
+        self.cartridge.area();
         self.cartridge.plate();
         self.cartridge.save();
     }
@@ -164,10 +165,10 @@ impl Session {
         for place in 0..PICTURE_BYTES as u16 {
             self.read(AREA + place);
         }
-        let plate = self.cartridge.plate().iter();
-        let plate: Vec<String> = plate.map(|byte| format!("00{byte:02X}")).collect();
+        let area = self.cartridge.area().iter();
+        let area: Vec<String> = area.map(|byte| format!("00{byte:02X}")).collect();
         assert!(
-            self.answers[before..] == plate,
+            self.answers[before..] == area,
             "the bytes read are the plate"
         );
     }

@@ -15,6 +15,8 @@ export const FRAME_BYTES: 16384;
 export const PICTURE_BYTES: 3584;
 /** Where the picture lies in RAM bank 0. */
 export const PICTURE_OFFSET: 256;
+/** Bytes of a plate as a Netpbm P5 file: a header of 15, then one for each of 128 by 112 pixels. */
+export const PLATE_BYTES: 14351;
 
 /**
  * A call that was refused; it changed nothing.
@@ -86,6 +88,8 @@ export interface Cartridge {
   /** The picture afresh: by itself that of the image lent, under the registers as last written. */
   picture(frame?: Bytes, registers?: Bytes): Uint8Array;
   /** The picture area as it stands in RAM, 3,584 bytes. */
+  area(): Uint8Array;
+  /** The picture area as it stands, as a grey image: a Netpbm P5 file of 14,351 bytes, white 255 and black 0. */
   plate(): Uint8Array;
   /** Copies of state, RAM and frame store. */
   save(): Save;

@@ -19,6 +19,9 @@ export const PICTURE_BYTES = 3_584;
 /** Where the picture lies in RAM bank 0. */
 export const PICTURE_OFFSET = 0x100;
 
+/** Bytes of a plate as a Netpbm P5 file: a header of 15, then one for each of 128 by 112 pixels. */
+export const PLATE_BYTES = 14_351;
+
 /** Where the registers stand in the state record. */
 const REGISTERS_OFFSET = 8;
 
@@ -100,11 +103,11 @@ function bound(exports) {
     const named = {
       frame: bytesOf("the frame", frame),
       registers: exactly(REGISTERS, "the registers", registers),
-      plate: new Uint8Array(PICTURE_BYTES),
+      area: new Uint8Array(PICTURE_BYTES),
     };
-    return withCopies(named, ({ frame, registers, plate }) => {
-      valueOf(exports.gulxinett_picture(...lent(frame), registers.address, plate.address));
-      return plate.bytes.slice();
+    return withCopies(named, ({ frame, registers, area }) => {
+      valueOf(exports.gulxinett_picture(...lent(frame), registers.address, area.address));
+      return area.bytes.slice();
     });
   }
 
@@ -251,8 +254,17 @@ function bound(exports) {
     }
 
     /** The picture area as it stands in RAM. */
-    plate() {
+    area() {
       return this.#open().ram.bytes.slice(PICTURE_OFFSET, PICTURE_OFFSET + PICTURE_BYTES);
+    }
+
+    /** The picture area as it stands, as a grey image: a Netpbm P5 file. */
+    plate() {
+      const { ram } = this.#open();
+      return withCopies({ file: new Uint8Array(PLATE_BYTES) }, ({ file }) => {
+        valueOf(exports.gulxinett_export(...lent(ram, file)));
+        return file.bytes.slice();
+      });
     }
 
     /** Copies of all that another cartridge needs to go on from here. */

@@ -29,6 +29,9 @@ PICTURE_BYTES = 3_584
 #: Where the picture lies in RAM bank 0.
 PICTURE_OFFSET = 0x100
 
+#: Bytes of a plate as a Netpbm P5 file: a header of 15, then one for each of 128 by 112 pixels.
+PLATE_BYTES = 14_351
+
 # Where the registers stand in the state record.
 _REGISTERS_OFFSET = 8
 # Bytes of a row of the image.
@@ -62,6 +65,7 @@ _FUNCTIONS = {
     "record_write": (ctypes.c_uint16, ctypes.c_uint8) + _LENT,
     "record_tick": (ctypes.c_uint32,) + _LENT,
     "record_row": (ctypes.c_uint8,) + _LENT * 2,
+    "export": _LENT * 2,
 }
 
 
@@ -175,9 +179,9 @@ def picture(frame, registers):
     frame, registers = _memory("the frame", frame), _memory("the registers", registers)
     if len(registers) != REGISTERS:
         raise ValueError("the registers must be %d bytes, not %d" % (REGISTERS, len(registers)))
-    plate = (ctypes.c_ubyte * PICTURE_BYTES)()
-    _call("picture", *_lent(frame), registers, plate)
-    return bytes(plate)
+    area = (ctypes.c_ubyte * PICTURE_BYTES)()
+    _call("picture", *_lent(frame), registers, area)
+    return bytes(area)
 
 
 class _Recorder:
@@ -317,10 +321,17 @@ class Cartridge:
         written = bytes(self._state)[_REGISTERS_OFFSET : _REGISTERS_OFFSET + REGISTERS]
         return picture(self._image if frame is None else frame, written if registers is None else registers)
 
-    def plate(self):
+    def area(self):
         """The picture area as it stands in RAM, 3,584 bytes."""
         self._open()
         return bytes(self._ram[PICTURE_OFFSET : PICTURE_OFFSET + PICTURE_BYTES])
+
+    def plate(self):
+        """The picture area as it stands, as a grey image: a Netpbm P5 file of 14,351 bytes."""
+        self._open()
+        file = (ctypes.c_ubyte * PLATE_BYTES)()
+        _call("export", *_lent(self._ram, file))
+        return bytes(file)
 
     def save(self):
         """Copies of state, RAM and frame store."""

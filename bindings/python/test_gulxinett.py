@@ -60,7 +60,7 @@ class Recording(unittest.TestCase):
         self.assertEqual(cartridge.recording(), due)
         self.assertRaises(ValueError, cartridge.write, 0xA000, 256)
         self.assertRaises(Refusal, cartridge.lend, bytes(5))
-        whole(cartridge), cartridge.inspect(), cartridge.plate()
+        whole(cartridge), cartridge.inspect(), cartridge.area(), cartridge.plate()
         self.assertEqual(cartridge.recording(), due)
         image = bytearray(FRAME_BYTES)
         cartridge.lend(image)
@@ -96,7 +96,7 @@ class Calls(unittest.TestCase):
             self.assertEqual(Cartridge.restore(cartridge.save(), rom=rom).read(0x4000), 0xA5)
             cartridge.reset()
             self.assertIsNone(cartridge.inspect())
-            self.assertEqual(cartridge.plate(), b"\x01" * PICTURE_BYTES)
+            self.assertEqual(cartridge.area(), b"\x01" * PICTURE_BYTES)
 
     def test_a_save_goes_on_elsewhere(self):
         one = begun(1)
@@ -106,9 +106,22 @@ class Calls(unittest.TestCase):
         other = Cartridge.restore(one.save())
         self.assertEqual(other.save(), one.save())
         for cartridge in (one, other):
-            self.assertNotEqual(cartridge.plate(), picture(frame(1), TAKEN))
+            self.assertNotEqual(cartridge.area(), picture(frame(1), TAKEN))
             self.assertEqual(cartridge.tick(0xFFFF_FFFF), TOTAL - TOTAL // 2)
-            self.assertEqual(cartridge.plate(), picture(frame(1), TAKEN))
+            self.assertEqual(cartridge.area(), picture(frame(1), TAKEN))
+
+    def test_plates_as_grey_images(self):
+        def grey(area, x, y):
+            at = 256 * (y // 8) + 16 * (x // 8) + 2 * (y % 8)
+            low, high = (area[at + place] >> 7 - x % 8 & 1 for place in (0, 1))
+            return (255, 170, 85, 0)[low + 2 * high]
+
+        cartridge = begun(1)
+        for cycles in (0, 20_000, 0xFFFF_FFFF):
+            cartridge.tick(cycles)
+            area = cartridge.area()
+            pixels = bytes(grey(area, x, y) for y in range(112) for x in range(128))
+            self.assertEqual(cartridge.plate(), b"P5\n128 112\n255\n" + pixels)
 
     def test_bytes_of_any_kind(self):
         kinds = bytes, bytearray, memoryview, lambda value: array.array("B", value)
@@ -216,7 +229,7 @@ class BadInput(unittest.TestCase):
         cartridge.close()
         uses = {
             "reset": (), "read": (0,), "write": (0xA000, 0), "tick": (1,), "inspect": (), "lend": (frame(1),),
-            "picture": (), "plate": (), "save": (), "record": (), "recording": (),
+            "picture": (), "area": (), "plate": (), "save": (), "record": (), "recording": (),
         }
         for name, words in uses.items():
             with self.assertRaisesRegex(ValueError, "the cartridge is closed"):

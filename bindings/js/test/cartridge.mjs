@@ -8,7 +8,7 @@ import { fileURLToPath } from "node:url";
 import * as gulxinett from "../gulxinett.js";
 import { Memory } from "../memory.js";
 
-const { FRAME_BYTES, PICTURE_BYTES, RAM_BANK, REGISTERS, ROM_BANK, Refusal, STATE_BYTES, load } = gulxinett;
+const { FRAME_BYTES, PICTURE_BYTES, PLATE_BYTES, RAM_BANK, REGISTERS, ROM_BANK, Refusal, STATE_BYTES, load } = gulxinett;
 const place = new URL("../gulxinett.wasm", import.meta.url);
 const bytes = readFileSync(place);
 const { Cartridge, picture } = await load();
@@ -105,15 +105,40 @@ function calls() {
   assert.equal(Cartridge.restore(cartridge.save(), { rom }).read(0x4000), 0xa5);
   cartridge.reset();
   assert.equal(cartridge.inspect(), null);
-  assert.deepEqual(cartridge.plate(), new Uint8Array(PICTURE_BYTES).fill(1));
+  assert.deepEqual(cartridge.area(), new Uint8Array(PICTURE_BYTES).fill(1));
   begin(cartridge, 1);
   assert.deepEqual(cartridge.picture(), picture(frame(1), registers));
   assert.deepEqual(cartridge.picture(frame(2)), picture(frame(2), registers));
   assert.notDeepEqual(cartridge.picture(), cartridge.picture(frame(2)));
   assert.equal(cartridge.tick(0xffff_ffff), TOTAL);
-  assert.deepEqual(cartridge.plate(), picture(frame(1), registers));
+  assert.deepEqual(cartridge.area(), picture(frame(1), registers));
   cartridge.close();
   say("each call, and a whole capture");
+}
+
+/** The file of a picture area, worked out here: each shade's low bit in one byte, its high bit in the next. */
+function fileOf(area) {
+  const grey = (_, i) => {
+    const [x, y] = [i % 128, i >> 7];
+    const at = 256 * (y >> 3) + 16 * (x >> 3) + 2 * (y & 7);
+    const [low, high] = [area[at], area[at + 1]].map((byte) => (byte >> (7 - (x & 7))) & 1);
+    return [255, 170, 85, 0][low + 2 * high];
+  };
+  return Buffer.concat([Buffer.from("P5\n128 112\n255\n"), Uint8Array.from({ length: 128 * 112 }, grey)]);
+}
+
+/** Plates as files: untouched RAM, half a picture, and a whole one in RAM of 16 banks. */
+function plates() {
+  const cartridge = new Cartridge({ ram: new Uint8Array(16 * RAM_BANK).fill(0x33) });
+  for (const cycles of [0, 20_000, 0xffff_ffff]) {
+    if (cycles === 20_000) begin(cartridge, 1);
+    cartridge.tick(cycles);
+    const plate = cartridge.plate();
+    assert.equal(plate.length, PLATE_BYTES);
+    assert.equal(Buffer.compare(plate, fileOf(cartridge.area())), 0);
+  }
+  cartridge.close();
+  say("plates as grey images: before a capture, half way and whole");
 }
 
 /** The lines of some rows of an image. */
@@ -191,7 +216,7 @@ function sideBySide() {
     const other = Cartridge.restore(cartridge.save());
     for (const one of [cartridge, other]) {
       assert.equal(one.tick(0xffff_ffff), TOTAL - number * 500);
-      assert.deepEqual(one.plate(), picture(frame(number), registers));
+      assert.deepEqual(one.area(), picture(frame(number), registers));
     }
     assert.deepEqual([cartridge.read(0), other.read(0)], [number, 0xff]);
     other.close();
@@ -339,7 +364,7 @@ function closed() {
   const before = [whole(other), whole(next)];
   cartridge.close();
   const uses = {
-    reset: [], read: [0], write: [0xa000, 0], tick: [1], inspect: [], lend: [frame(1)], picture: [], plate: [], save: [],
+    reset: [], read: [0], write: [0xa000, 0], tick: [1], inspect: [], lend: [frame(1)], picture: [], area: [], plate: [], save: [],
     record: [], recording: [],
   };
   for (const [name, words] of Object.entries(uses)) throws(Error, "the cartridge is closed", () => cartridge[name](...words));
@@ -353,6 +378,7 @@ theModule();
 types();
 await loading();
 calls();
+plates();
 recorder();
 sideBySide();
 memory();

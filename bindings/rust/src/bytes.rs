@@ -149,3 +149,10 @@ pub fn record_row(row: u8, bytes: &[u8], out: &mut [u8]) -> Answer {
         )
     })
 }
+
+/// Writes the picture area as a Netpbm P5 file; the value is its length, 14,351. Bytes of `out` beyond
+/// it stay, and a shorter `out` is refused as [`Refusal::Room`].
+pub fn export(ram: &[u8], out: &mut [u8]) -> Answer {
+    // SAFETY: each pointer and length are those of one slice, and the mutable one is apart.
+    Answer(unsafe { ffi::gulxinett_export(ram.as_ptr(), ram.len(), out.as_mut_ptr(), out.len()) })
+}

@@ -2,8 +2,8 @@
 
 use crate::recorder::Recorder;
 use crate::{
-    inspect, picture, read, reset, tick, write, Element, Refusal, State, FRAME_BYTES,
-    PICTURE_BYTES, PICTURE_OFFSET, RAM_BANK, ROM_BANK,
+    bytes, inspect, picture, read, reset, tick, write, Element, Refusal, State, FRAME_BYTES,
+    PICTURE_BYTES, PICTURE_OFFSET, PLATE_BYTES, RAM_BANK, ROM_BANK,
 };
 
 /// State, ROM, RAM, frame store and the image lent. Dropping it is closing it.
@@ -160,8 +160,16 @@ impl Cartridge {
     }
 
     /// The picture area as it stands in RAM.
-    pub fn plate(&self) -> &[u8] {
+    pub fn area(&self) -> &[u8] {
         &self.ram[PICTURE_OFFSET..PICTURE_OFFSET + PICTURE_BYTES]
+    }
+
+    /// The picture area as it stands, as a grey image: a Netpbm P5 file of 14,351 bytes.
+    pub fn plate(&self) -> Vec<u8> {
+        let mut file = vec![0; PLATE_BYTES];
+        let written = bytes::export(&self.ram, &mut file).result();
+        written.expect("the RAM has an allowed length, and there is room");
+        file
     }
 
     /// The state record as it stands.

@@ -60,4 +60,6 @@ extern "C" {
         out: *mut u8,
         out_len: usize,
     ) -> u64;
+
+    pub fn gulxinett_export(ram: *const u8, ram_len: usize, out: *mut u8, out_len: usize) -> u64;
 }

@@ -34,6 +34,8 @@ pub const FRAME_BYTES: usize = 16_384;
 pub const PICTURE_BYTES: usize = 3_584;
 /// Where the picture lies in RAM bank 0.
 pub const PICTURE_OFFSET: usize = 0x100;
+/// Bytes of a plate as a Netpbm P5 file: a header of 15, then one for each of 128 by 112 pixels.
+pub const PLATE_BYTES: usize = 14_351;
 /// Bytes of a row of the image.
 pub const ROW_BYTES: usize = 128;
 /// Bytes of the longest line of a bus script, that of an image row, with its LF.

@@ -1,8 +1,8 @@
 //! The owner of a cartridge's memory: a save picked up by another, and what bad input gets.
 
 use gulxinett::{
-    picture, Cartridge, Element, Refusal, Save, FRAME_BYTES, PICTURE_BYTES, RAM_BANK, REGISTERS,
-    ROM_BANK, STATE_BYTES,
+    bytes, picture, Cartridge, Element, Refusal, Save, FRAME_BYTES, PICTURE_BYTES, PLATE_BYTES,
+    RAM_BANK, REGISTERS, ROM_BANK, STATE_BYTES,
 };
 
 const TOTAL: u32 = 32_958 + 16 * 0x80;
@@ -41,9 +41,9 @@ fn a_save_goes_on_elsewhere() {
     let mut other = Cartridge::restore(save.clone()).unwrap();
     assert!(other.save() == save);
     let fresh = picture(&frame(), &registers()).unwrap();
-    assert!(other.plate() != fresh);
+    assert!(other.area() != fresh);
     assert_eq!(other.tick(u32::MAX), Ok(TOTAL - TOTAL / 2));
-    assert!(other.plate() == fresh);
+    assert!(other.area() == fresh);
     assert!(!other.state().held);
 }
 
@@ -69,7 +69,43 @@ fn the_calls() {
     assert_eq!(other.read(0x4000), Ok(0xA5));
     cartridge.reset();
     assert_eq!(cartridge.inspect(), Ok(None));
-    assert!(cartridge.plate() == [1; PICTURE_BYTES]);
+    assert!(cartridge.area() == [1; PICTURE_BYTES]);
+}
+
+/// The file of a picture area, worked out here: each shade's low bit in one byte, its high bit in
+/// the next.
+fn file_of(area: &[u8]) -> Vec<u8> {
+    let grey = |place: usize| {
+        let (x, y) = (place % 128, place / 128);
+        let at = 256 * (y / 8) + 16 * (x / 8) + 2 * (y % 8);
+        let bit = |byte: u8| usize::from(byte >> (7 - x % 8) & 1);
+        [255, 170, 85, 0][bit(area[at]) + 2 * bit(area[at + 1])]
+    };
+    let header = b"P5\n128 112\n255\n".iter().copied();
+    header.chain((0..128 * 112).map(grey)).collect()
+}
+
+#[test]
+fn plates_as_grey_images() {
+    let mut cartridge = half_way();
+    assert!(cartridge.plate() == file_of(cartridge.area()));
+    cartridge.tick(u32::MAX).unwrap();
+    assert!(cartridge.plate() == file_of(cartridge.area()));
+    assert!(Cartridge::default().plate()[15..] == [0; PLATE_BYTES - 15]);
+}
+
+#[test]
+fn exports_that_are_refused() {
+    let mut room = [0xA5; PLATE_BYTES];
+    let short = &mut room[1..];
+    assert_eq!(export(&[0; RAM_BANK], short), Err(Refusal::Room));
+    assert_eq!(export(&[0; RAM_BANK - 1], short), Err(Refusal::Ram));
+    assert_eq!(room, [0xA5; PLATE_BYTES]);
+    assert_eq!(export(&[0; RAM_BANK], &mut room), Ok(PLATE_BYTES as u32));
+}
+
+fn export(ram: &[u8], out: &mut [u8]) -> Result<u32, Refusal> {
+    bytes::export(ram, out).result()
 }
 
 #[test]

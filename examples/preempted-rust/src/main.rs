@@ -107,7 +107,7 @@ fn finish(path: &str) -> Outcome<()> {
     let mut cartridge = load(path)?;
     let wanted = picture(&first_image(), &first_registers())?;
     ensure(
-        cartridge.plate() != wanted,
+        cartridge.area() != wanted,
         "the picture was whole before the capture ended",
     )?;
     let (image, registers) = (second_image(), second_registers());
@@ -121,12 +121,12 @@ fn finish(path: &str) -> Outcome<()> {
         "that is not the rest of the capture",
     )?;
     ensure(
-        cartridge.plate() == wanted,
+        cartridge.area() == wanted,
         "the picture is not that of the first image under the first registers",
     )?;
     let unwanted = picture(&image, &registers)?;
     ensure(
-        cartridge.plate() != unwanted,
+        cartridge.area() != unwanted,
         "the picture is that of the second image",
     )?;
     println!(
