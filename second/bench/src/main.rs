@@ -6,10 +6,10 @@
 
 #![forbid(unsafe_code)]
 
-mod lines;
 mod machines;
 mod script;
 mod timing;
+mod written;
 
 use machines::{Archive, Bytes, Direct, Machine};
 use std::hint::black_box;
@@ -63,11 +63,11 @@ impl Bench {
         timing::head();
         let captures = self.measure_captures();
         self.measure_small();
-        let lines = lines::measure(self.effort);
+        let written = written::measure(self.effort);
         script::compare(proved, second, self.effort)?;
         println!();
         captures.iter().for_each(|line| println!("{line}"));
-        lines.iter().for_each(|line| println!("{line}"));
+        written.iter().for_each(|line| println!("{line}"));
         println!("the real cartridge makes {REAL:.0} captures a second at most");
         Ok(())
     }

@@ -5,9 +5,9 @@
 //! a length that is in use. Then come steps, numbers little-endian:
 //!
 //! - [`LENT`], which memory, its length as 4 bytes, a patch: it is lent so from here on;
-//! - the kind of a call 0 to 10 and its words, the answer as 8 bytes, how many memories it changed,
-//!   and of each which one and a patch. The memory of what a call gives out, a picture or a line, is
-//!   all [`UNDRAWN`] before;
+//! - the kind of a call 0 to 11 and its words, the answer as 8 bytes, how many memories it changed,
+//!   and of each which one and a patch. The memory of what a call gives out, a picture, a line or
+//!   a file, is all [`UNDRAWN`] before;
 //! - [`END`] and how many calls there were, as 8 bytes.
 //!
 //! A patch is a place and a count of bytes, 4 bytes each, and the bytes.
@@ -85,7 +85,7 @@ impl Answers {
         self.steps.push(0);
         let given_out = match call {
             Call::Picture { .. } => Some(PICTURE),
-            Call::Record { .. } => Some(OUT),
+            Call::Record { .. } | Call::Export { .. } => Some(OUT),
             _ => None,
         };
         let bytes = memories(after);
@@ -145,6 +145,10 @@ impl Answers {
             }
             Call::Record { frame, room } => {
                 self.frame(frame);
+                self.steps.extend((*room as u16).to_le_bytes());
+            }
+            Call::Export { room } => {
+                self.steps.push(11);
                 self.steps.extend((*room as u16).to_le_bytes());
             }
             Call::Image { .. } | Call::Lend { .. } | Call::Put { .. } => {

@@ -37,6 +37,10 @@ pub enum Call {
         frame: Frame<Box<[u8]>>,
         room: usize,
     },
+    /// The picture area as a file, into so many bytes.
+    Export {
+        room: usize,
+    },
     /// Another image is lent from here on.
     Image {
         kind: u8,
@@ -80,6 +84,7 @@ impl fmt::Display for Call {
                 write!(f, "picture of {of:?} under {}", hex(&registers[..]))
             }
             Call::Record { frame, room } => write!(f, "{frame:?} recorded in {room} bytes"),
+            Call::Export { room } => write!(f, "export in {room} bytes"),
             Call::Image { kind, seed } => write!(f, "image of kind {kind}, seed {seed}"),
             Call::Lend { what, length } => write!(f, "lend {what:?} of {length} bytes"),
             Call::Put { record } => write!(f, "state {}", hex(record)),

@@ -5,6 +5,7 @@ use crate::call::{Call, Lent};
 use crate::lines;
 use crate::random::Random;
 use crate::sides::{Beginning, Pair};
+use crate::sweep::export_room;
 use second::{State, Timing};
 use std::collections::VecDeque;
 
@@ -23,6 +24,8 @@ pub struct History<'a> {
     planned: VecDeque<Call>,
     pub compared: u64,
     pub captures: u64,
+    /// Files made while a capture was running.
+    pub halves: u64,
     /// A start was seen, so that its end makes a whole capture.
     started: bool,
 }
@@ -50,6 +53,7 @@ impl<'a> History<'a> {
             planned: VecDeque::new(),
             compared: 0,
             captures: 0,
+            halves: 0,
             started: false,
         }
     }
@@ -76,6 +80,7 @@ impl<'a> History<'a> {
 
     fn count_captures(&mut self, call: &Call, before: Option<State>) {
         let held = |state: Option<State>| state.is_some_and(|state| state.held);
+        let running = before.is_some_and(|state| state.running());
         let (before, after) = (held(before), held(self.state()));
         match call {
             Call::Write { .. } if after && !before => self.started = true,
@@ -83,6 +88,7 @@ impl<'a> History<'a> {
                 self.captures += u64::from(std::mem::take(&mut self.started));
             }
             Call::Reset | Call::Put { .. } => self.started = false,
+            Call::Export { .. } if running => self.halves += 1,
             _ => {}
         }
     }
@@ -124,7 +130,12 @@ impl<'a> History<'a> {
                 13..=14 => return Call::Reset,
                 15..=17 => return self.picture(),
                 18..=30 => return self.image(),
-                31..=70 => return Call::Inspect,
+                31..=65 => return Call::Inspect,
+                66..=70 => {
+                    return Call::Export {
+                        room: export_room(self.random),
+                    }
+                }
                 71..=80 => return self.record(),
                 81..=480 => {
                     return Call::Read {

@@ -106,13 +106,19 @@ fn compare(calls: u64, seed: u64, answers: Option<Answers>) -> Option<Option<Ans
         tally.compared - refusals
     );
     compare_lines(&mut tally, &mut random);
+    let before = tally.compared;
+    sweep::exports(&mut tally, &mut random);
+    println!(
+        "plates as files: {} calls compared",
+        tally.compared - before
+    );
     tally
         .differences
         .iter()
         .take(SHOWN)
         .for_each(|difference| println!("DIFFERENCE: {difference}"));
     let mut differences = tally.differences.len();
-    let (mut compared, mut captures) = (0, 0);
+    let (mut compared, mut captures, mut halves) = (0, 0, 0);
     while compared < calls && differences < SHOWN {
         let mut history = History::new(&mut random);
         if let Err(difference) = history.play(HISTORY.min(calls - compared), tally.answers.as_mut())
@@ -122,8 +128,12 @@ fn compare(calls: u64, seed: u64, answers: Option<Answers>) -> Option<Option<Ans
         }
         compared += history.compared;
         captures += history.captures;
+        halves += history.halves;
     }
-    println!("histories: {compared} calls compared, {captures} whole captures");
+    println!(
+        "histories: {compared} calls compared, {captures} whole captures, \
+         {halves} files made while a capture was running"
+    );
     println!(
         "seed {seed}: {} calls compared in all, {captures} whole captures, {differences} differences, {:.1} s",
         compared + tally.compared,

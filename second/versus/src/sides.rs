@@ -79,6 +79,10 @@ impl Side {
         if let Call::Record { frame, room } = call {
             return record_archive(frame, self.make_room(*room));
         }
+        if let Call::Export { room } = call {
+            self.make_room(*room);
+            return bytes::export(&self.ram, &mut self.out).0;
+        }
         let Side {
             state,
             rom,
@@ -117,6 +121,10 @@ impl Side {
         if let Call::Record { frame, room } = call {
             return record_second(frame, self.make_room(*room));
         }
+        if let Call::Export { room } = call {
+            self.make_room(*room);
+            return self.export_second();
+        }
         let Some(mut state) = State::from_bytes(&self.state) else {
             return refused(1);
         };
@@ -148,6 +156,14 @@ impl Side {
         }
         self.state.copy_from_slice(&State::RESET.to_bytes());
         0
+    }
+
+    fn export_second(&mut self) -> u64 {
+        let written = second::export(&self.ram, &mut self.out);
+        written.map_or_else(
+            |refusal| refused(refusal.number().into()),
+            |()| second::GREY_FILE_BYTES as u64,
+        )
     }
 
     fn draw_second(&mut self, of: Lent, registers: &[u8; 54]) -> u64 {
@@ -271,6 +287,7 @@ impl Pair {
                 ("picture", &a.picture, &b.picture),
             ],
             Call::Record { .. } => &[("line", &a.out, &b.out)],
+            Call::Export { .. } => &[("RAM", &a.ram, &b.ram), ("file", &a.out, &b.out)],
             _ => &[],
         };
         let state = parted("state", &a.state, &b.state)

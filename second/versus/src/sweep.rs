@@ -318,6 +318,43 @@ pub fn lines(tally: &mut Tally, random: &mut Random) {
     }
 }
 
+/// Random RAM of every count of banks, and of lengths that are none, as files in buffers long enough
+/// and too short.
+pub fn exports(tally: &mut Tally, random: &mut Random) {
+    let mut side = Pair::new(&Beginning {
+        rom_banks: 1,
+        ram_banks: 1,
+        seed: 5,
+    })
+    .archive;
+    let mut lengths: Vec<usize> = (0..=34).map(|banks| banks * 8_192).collect();
+    lengths.extend([1, 3_840, 4_096, 8_191, 8_193, 131_071, 131_073]);
+    for length in lengths {
+        let no_ram = ![1, 2, 4, 8, 16]
+            .map(|banks| banks * 8_192)
+            .contains(&length);
+        let random_rooms = std::array::from_fn::<_, 8, _>(|_| export_room(random));
+        for room in [0, 1, 15, 14_350, 14_351, 14_352]
+            .into_iter()
+            .chain(random_rooms)
+        {
+            side.ram.resize(length, 0);
+            random.fill(&mut side.ram);
+            let due = lowest(&[(3, no_ram), (7, room < 14_351)]);
+            tally.compare(&side, &Call::Export { room }, due);
+        }
+    }
+}
+
+/// Room for a file, more often than not enough.
+pub fn export_room(random: &mut Random) -> usize {
+    match random.below(4) {
+        0 => random.below(14_351) as usize,
+        1 => 14_351 + random.below(1_000) as usize,
+        _ => 14_351,
+    }
+}
+
 /// The picture afresh under every mode, ratio, inversion and 1-D filter, and every value of
 /// registers 0 to 5.
 pub fn pictures(tally: &mut Tally, random: &mut Random) {

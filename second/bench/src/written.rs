@@ -1,34 +1,37 @@
-//! Frames written as script lines.
+//! What is written into a lent buffer: frames as script lines, a plate as a file.
 
 use crate::timing::{self, sample, Effort, Spread};
 use gulxinett::bytes;
-use second::Frame;
+use second::{Frame, GREY_FILE_BYTES};
 use std::hint::black_box;
 
-const ROOM: usize = 261;
+const LINE: usize = 261;
 const PIXELS: usize = 128;
 
-/// Writes a frame with a number in it into a buffer.
+/// Writes something with a number in it into a buffer.
 type Writer = fn(&mut Lent, u32);
 
 /// What a writer is lent.
 struct Lent {
     row: [u8; PIXELS],
-    room: [u8; ROOM],
+    ram: Vec<u8>,
+    room: [u8; GREY_FILE_BYTES],
 }
 
-/// Times both on a row of the image and on a write; returns what each writes in a second.
-pub fn measure(effort: Effort) -> [String; 2] {
+/// Times both on a row of the image, a write and a plate; returns what each writes in a second.
+pub fn measure(effort: Effort) -> [String; 3] {
     [
-        lines("row lines", effort, proved_row, second_row),
-        lines("write lines", effort, proved_write, second_write),
+        compare("row lines", effort, proved_row, second_row),
+        compare("write lines", effort, proved_write, second_write),
+        compare("plates as files", effort, proved_file, second_file),
     ]
 }
 
-fn lines(what: &str, effort: Effort, proved: Writer, second: Writer) -> String {
+fn compare(what: &str, effort: Effort, proved: Writer, second: Writer) -> String {
     let mut lent = Lent {
         row: std::array::from_fn(|place| place as u8 * 37),
-        room: [0; ROOM],
+        ram: (0..8_192).map(|place| (place * place / 7) as u8).collect(),
+        room: [0; GREY_FILE_BYTES],
     };
     let mut times = [const { Vec::new() }; 2];
     for round in 0..effort.rounds + 1 {
@@ -57,14 +60,14 @@ fn lines(what: &str, effort: Effort, proved: Writer, second: Writer) -> String {
 
 fn proved_row(lent: &mut Lent, number: u32) {
     let answer = bytes::record_row(number as u8 & 0x7F, &lent.row, &mut lent.room);
-    assert_eq!(answer.0, ROOM as u64);
+    assert_eq!(answer.0, LINE as u64);
 }
 
 fn second_row(lent: &mut Lent, number: u32) {
     let row = number as u8 & 0x7F;
     let pixels = &lent.row[..];
     let written = Frame::Row { row, pixels }.write_line(&mut lent.room);
-    assert_eq!(written, Ok(ROOM));
+    assert_eq!(written, Ok(LINE));
 }
 
 fn proved_write(lent: &mut Lent, number: u32) {
@@ -76,4 +79,16 @@ fn second_write(lent: &mut Lent, number: u32) {
     let (address, value) = (number as u16, number as u8);
     let written = Frame::<&[u8]>::Write { address, value }.write_line(&mut lent.room);
     assert_eq!(written, Ok(9));
+}
+
+fn proved_file(lent: &mut Lent, number: u32) {
+    lent.ram[0x100] = number as u8;
+    let answer = bytes::export(&lent.ram, &mut lent.room);
+    assert_eq!(answer.0, GREY_FILE_BYTES as u64);
+}
+
+fn second_file(lent: &mut Lent, number: u32) {
+    lent.ram[0x100] = number as u8;
+    let written = second::export(&lent.ram, &mut lent.room);
+    assert_eq!(written, Ok(()));
 }
