@@ -12,7 +12,7 @@
 
 static uint8_t state[GULXINETT_STATE_LEN], rom[GULXINETT_ROM_BANK_LEN], ram[GULXINETT_RAM_BANK_LEN];
 static uint8_t store[GULXINETT_FRAME_LEN], image[GULXINETT_FRAME_LEN], picture[GULXINETT_PICTURE_LEN];
-static uint8_t line[GULXINETT_LINE_LEN];
+static uint8_t line[GULXINETT_LINE_LEN], plate[GULXINETT_PLATE_LEN];
 static uint8_t room[ROOM];
 static ucontext_t here, there;
 
@@ -58,6 +58,7 @@ static void everything(void)
         gulxinett_read(state, sizeof state, rom, sizeof rom, ram, sizeof ram, 0xA100);
         gulxinett_read(state, sizeof state, rom, sizeof rom, ram, sizeof ram, 0x0000);
         record();
+        gulxinett_export(ram, sizeof ram, plate, sizeof plate);
     }
 }
 

@@ -1,7 +1,7 @@
 // The browser module with a cartridge's parts lent to it, for tests and the bench.
 import { readFileSync } from "node:fs";
 
-const SIZES = { state: 116, ram: 8192, store: 16384, image: 16384, registers: 54, picture: 3584, line: 261 };
+const SIZES = { state: 116, ram: 8192, store: 16384, image: 16384, registers: 54, picture: 3584, line: 261, plate: 14351 };
 const PAGE = 65536;
 const TRIGGER = 0xa000;
 
@@ -40,6 +40,7 @@ export function lend(path) {
     tick: (cycles) => value(call.gulxinett_tick(...lent("state", "ram", "store"), cycles)),
     inspect: () => value(call.gulxinett_inspect(...lent("state"))),
     picture: () => value(call.gulxinett_picture(...lent("image"), at.registers, at.picture)),
+    export: () => value(call.gulxinett_export(...lent("ram", "plate"))),
     /** A line of each kind. */
     record() {
       const room = lent("line");
