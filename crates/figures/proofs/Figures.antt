@@ -11,7 +11,7 @@ use Rattle.laws.specs.Pick.{pick}
 use Rattle.laws.specs.Bits.{putBit}
 use Rattle.sensor.specs.Taken.{exposureOf, modeOf, quartersOf, kindOf, settingOf, invertedOf}
 use Rattle.sensor.specs.Light.{adaptedZ, adapted, exposed, turned, lightOf, litOf}
-use Rattle.sensor.specs.Edge.{held, edgeOf, modeD, modeE, signedAt, threeOf, nineOf, step4}
+use Rattle.sensor.specs.Edge.{held, edgeOf, mode2, modeD, modeE, signedAt, threeOf, nineOf, step4}
 use Rattle.sensor.specs.Row.{passes, rowFilter, step5}
 use Rattle.sensor.specs.Shade.{valueAt, shadeOf, shadeAt}
 use Rattle.controller.specs.Timing.{nSet, totalOf, readingFrom, rowsRead, firstRow, due}
@@ -54,7 +54,7 @@ agree (row ∷ rows) t =
 
 -- The starred figures: what the definitions give is what the paper says, row by row.
 pub figures : Agree table
-unfolding same agrees table firstCycle shown changed putBit totalOf readingFrom rowsRead firstRow due writtenAt putPixel putAt packed pictureFrom doneBy exposureOf modeOf quartersOf kindOf settingOf invertedOf adaptedZ adapted exposed turned lightOf litOf held edgeOf modeD modeE signedAt nineOf threeOf step4 passes rowFilter step5 valueAt shadeOf shadeAt
+unfolding same agrees table firstCycle shown changed putBit totalOf readingFrom rowsRead firstRow due writtenAt putPixel putAt packed pictureFrom doneBy exposureOf modeOf quartersOf kindOf settingOf invertedOf adaptedZ adapted exposed turned lightOf litOf held edgeOf mode2 modeD modeE signedAt nineOf threeOf step4 passes rowFilter step5 valueAt shadeOf shadeAt
 figures = agree table tt
 
 -- No capture takes longer than the largest total.

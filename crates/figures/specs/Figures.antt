@@ -2,7 +2,7 @@
 use mathlib.Core.Path.{_≡_}
 use mathlib.Core.List.{List, [], _∷_}
 use Prim.Native.Nat.{ℕ, zero, suc, _/_, _%_}
-use lib.IntN.{ℤ, pos, negsuc}
+use lib.IntN.{ℤ, pos, negsuc, natAbs, _+ℤ_}
 use lib.Dec.{eqb}
 use lib.ListN.{length, getD, replicate}
 use Rattle.laws.specs.Pick.{pick}
@@ -59,6 +59,13 @@ around p n s e w = (pos 0 ∷ n ∷ pos 0 ∷ []) ∷ (w ∷ p ∷ e ∷ []) ∷
 abbrev pub filtered : List ℕ → List (List ℤ) → ℤ
 filtered regs n = edgeOf (modeOf regs) (quartersOf regs) n
 
+-- registers that ask mode 2 and the positive setting, and a value of −20
+abbrev pub dark : List ℕ
+dark = registers 3 0x20 0x00 0x00 0
+
+abbrev pub level : ℤ
+level = negsuc 19
+
 -- Shades 0 1 2 3 0 1 2 3
 abbrev pub shades : List ℕ
 shades = 0 ∷ 1 ∷ 2 ∷ 3 ∷ 0 ∷ 1 ∷ 2 ∷ 3 ∷ []
@@ -112,6 +119,8 @@ table =
     ∷ signed (filtered (registers 1 0xE0 0x00 0x00 0x10) (around (pos 10) (pos 13) (pos 14) (pos 14) (pos 14))) (negsuc 0)
     -- Mode D, 50 %, P 5, N 6, S 5: 0
     ∷ signed (filtered (registers 1 0xC0 0x00 0x00 0x80) (around (pos 5) (pos 6) (pos 5) (pos 0) (pos 0))) (pos 0)
+    -- Mode 2, P −20, level neighbours, positive: the value is 108
+    ∷ number (natAbs (rowFilter (kindOf dark) (filtered dark (around level level level level level)) level +ℤ pos 128)) 108
     -- Negative of −128: 127
     ∷ signed (rowFilter (kindOf (registers 1 0x00 0x00 0x00 0)) (negsuc 127) (pos 0)) (pos 127)
     -- L M H 89 92 A2: 88h black, 89h dark, 92h light, A2h white

@@ -3,7 +3,6 @@ use mathlib.Core.Bool.{Bool, true, false}
 use mathlib.Core.List.{List}
 use mathlib.Core.Path.{_≡_, refl, ap, _∙_}
 use Prim.Native.Nat.{ℕ, zero, suc, _+_, _/_, _%_, _≤_, _<_}
-use native.Mathlib.Nat.{le-trans}
 use native.Mathlib.Omega.{arith}
 use borrow.Author.Tests.{ltb-false, ne-eqb}
 use lib.IntN.{ℤ, pos, negsuc, natAbs, _+ℤ_, _-ℤ_}
@@ -19,7 +18,7 @@ use Rattle.laws.proofs.Signed.{sub-ind, abs-mag}
 use Rattle.sensor.specs.declared.Setting.{Setting}
 use Rattle.sensor.specs.Taken.{exposureOf, alphas, quartersOf, settingOf, Sane}
 use Rattle.sensor.specs.Light.{exposed, turned, lightOf, litOf}
-use Rattle.sensor.specs.Edge.{between, held, heldHigh, nine, Small, mode2, mode3, modeC, modeD, modeE, modeF, edgeOf, isPlain, signedAt, threeOf, nineOf, step4}
+use Rattle.sensor.specs.Edge.{between, held, nine, Small, mode2, mode3, modeC, modeD, modeE, modeF, edgeOf, isPlain, signedAt, threeOf, nineOf, step4}
 use Rattle.sensor.specs.Row.{passes, rowFilter, step5}
 use Rattle.sensor.specs.Shade.{valueAt, element, shadeOf, shadeAt}
 
@@ -40,12 +39,6 @@ pub held-small : (v : ℤ) → mag (held v) < 128
 unfolding held
 held-small (pos n) = pick-ind (λ z. mag z < 128) (ltb 127 n) (λ e. lit< tt) (λ e. omega (arith, ltb-false 127 n e))
 held-small (negsuc n) = pick-ind (λ z. mag z < 128) (ltb 127 n) (λ e. lit< tt) (λ e. omega (arith, ltb-false 127 n e))
-
-pub high-size : (v : ℤ) → natAbs (heldHigh v) ≤ 255
-unfolding heldHigh
-high-size (pos n) =
-    pick-ind (λ z. natAbs z ≤ 255) (ltb n 0) (λ e. lit≤ tt) (λ e. pick-ind (λ z. natAbs z ≤ 255) (ltb 255 n) (λ f. lit≤ tt) (λ f. ltb-false 255 n f))
-high-size (negsuc n) = lit≤ tt
 
 -- ---- the light
 
@@ -99,32 +92,19 @@ edge-plain mode q n h = simp (no 0x1 refl, no 0x2 refl, no 0x3 refl, no 0xC refl
     no : (k : ℕ) → isPlain k ≡ false → eqb mode k ≡ false
     no k f = ne-eqb mode k (λ e. never h (ap isPlain e ∙ f))
 
--- a mode that is not 2 lies in −128..127, which is what step 5 hands on unheld
+-- the value of any mode lies in −128..127
 module _ (n : List (List ℤ)) (s : Small n) (mode q : ℕ) where
-  -- what each of the modes has, the value has
-  each : (P : ℤ → Type 0) → P (pos 0) → (eqb mode 2 ≡ true → P (mode2 q n)) → ((v : ℤ) → P (held v)) → P (nine n 1 1) → P (edgeOf mode q n)
-  unfolding edgeOf mode3 modeC modeD modeE modeF
-  each P zeroed two holds p =
-      pick-ind P (eqb mode 0x1) (λ e. zeroed) (λ e.
-      pick-ind P (eqb mode 0x2) two (λ e.
-      pick-ind P (eqb mode 0x3) (λ e. holds _) (λ e.
-      pick-ind P (eqb mode 0xC) (λ e. holds _) (λ e.
-      pick-ind P (eqb mode 0xD) (λ e. holds _) (λ e.
-      pick-ind P (eqb mode 0xE) (λ e. holds _) (λ e.
-      pick-ind P (eqb mode 0xF) (λ e. holds _) (λ e. p)))))))
-
-  pub edge-small : eqb mode 2 ≡ false → mag (edgeOf mode q n) < 128
-  edge-small f = each (λ z. mag z < 128) (lit< tt) (λ t. absurd (never t f)) held-small (s 1 1)
-
-  -- and mode 2 in 0..255
-  pub edge-size : natAbs (edgeOf mode q n) ≤ 255
-  unfolding mode2
-  edge-size = each (λ z. natAbs z ≤ 255) (lit≤ tt) (λ t. high-size _) (λ v. le-trans (abs-mag (held v) (held-small v)) (lit≤ tt)) (le-trans (abs-mag (nine n 1 1) (s 1 1)) (lit≤ tt))
-
--- a mode that does not pass the 1-D filter is not mode 2
-not-two : (mode : ℕ) → passes mode ≡ false → eqb mode 2 ≡ false
-unfolding passes
-not-two mode h = ne-eqb mode 2 (λ e. never (ap passes e) h)
+  pub edge-small : mag (edgeOf mode q n) < 128
+  unfolding edgeOf mode2 mode3 modeC modeD modeE modeF
+  edge-small =
+      let P : ℤ → Type 0 = λ z. mag z < 128 in
+      pick-ind P (eqb mode 0x1) (λ e. lit< tt) (λ e.
+      pick-ind P (eqb mode 0x2) (λ e. held-small _) (λ e.
+      pick-ind P (eqb mode 0x3) (λ e. held-small _) (λ e.
+      pick-ind P (eqb mode 0xC) (λ e. held-small _) (λ e.
+      pick-ind P (eqb mode 0xD) (λ e. held-small _) (λ e.
+      pick-ind P (eqb mode 0xE) (λ e. held-small _) (λ e.
+      pick-ind P (eqb mode 0xF) (λ e. held-small _) (λ e. s 1 1)))))))
 
 -- ---- the nine values of lit values that are bytes
 module _ (lit : ℕ → ℕ → ℕ) (bytes : (x row : ℕ) → lit x row < 256) where
@@ -147,15 +127,16 @@ module _ (lit : ℕ → ℕ → ℕ) (bytes : (x row : ℕ) → lit x row < 256)
   nine-small x row (suc (suc (suc i))) j = lit< tt
 
   module _ (set : Setting) (x row : ℕ) where
-    pub step4-size : natAbs (step4 lit set x row) ≤ 255
+    pub step4-small : mag (step4 lit set x row) < 128
     unfolding step4
-    step4-size = edge-size (nineOf lit x row) (nine-small x row) (set .mode) (set .quarters)
+    step4-small = edge-small (nineOf lit x row) (nine-small x row) (set .mode) (set .quarters)
+
+    pub step4-size : natAbs (step4 lit set x row) ≤ 128
+    step4-size = abs-mag (step4 lit set x row) step4-small
 
     pub step5-small : mag (step5 lit set x row) < 128
-    unfolding step5 rowFilter step4
-    step5-small =
-        pick-ind (λ z. mag z < 128) (passes (set .mode)) (λ e. held-small _)
-        (λ e. edge-small (nineOf lit x row) (nine-small x row) (set .mode) (set .quarters) (not-two (set .mode) e))
+    unfolding step5 rowFilter
+    step5-small = pick-ind (λ z. mag z < 128) (passes (set .mode)) (λ e. held-small _) (λ e. step4-small)
 
     -- a value is the step 5 value with 128 added: nothing is lost
     pub value-exact : pos (valueAt lit set x row) ≡ step5 lit set x row +ℤ pos 128

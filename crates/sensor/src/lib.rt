@@ -6,7 +6,7 @@ ghost use lib.IntN.{natAbs};
 ghost use lib.ListN.{length, getD};
 ghost use Rattle.sensor.specs.Taken.{exposureOf, alphas, Sane, Asked};
 ghost use Rattle.sensor.specs.Light.{Inside, adapted, exposed, turned, lightOf, litOf};
-ghost use Rattle.sensor.specs.Edge.{held, heldHigh, Small, acrossOf, uprightOf, aroundOf, enhanced, extracted, mode2, mode3, modeC, modeD, modeE, modeF, edgeOf, isPlain, leftOf, rightOf, aboveOf, belowOf, signedAt, threeOf, nineOf, step4};
+ghost use Rattle.sensor.specs.Edge.{held, Small, acrossOf, uprightOf, aroundOf, enhanced, extracted, mode2, mode3, modeC, modeD, modeE, modeF, edgeOf, isPlain, leftOf, rightOf, aboveOf, belowOf, signedAt, threeOf, nineOf, step4};
 ghost use Rattle.sensor.specs.Row.{passes, step5};
 ghost use Rattle.sensor.specs.Shade.{valueAt, shadeOf, shadeAt};
 
@@ -442,19 +442,6 @@ pub fn hold(v: i32) -> i32
     v
 }
 
-// Held to 0..255.
-pub fn hold_high(v: i32) -> i32
-    ensures { λ r. ⌜ r ≡ heldHigh v ⌝ }
-{
-    if v < 0 {
-        return 0;
-    }
-    if 255 < v {
-        return 255;
-    }
-    v
-}
-
 // 2P - W - E.
 fn across(n: [[i32; 3]; 3]) -> i32
     requires { ⌜ Small n ⌝ }
@@ -501,7 +488,7 @@ pub fn mode_2(quarters: u8, n: [[i32; 3]; 3]) -> i32
     requires { ⌜ (quarters ≤ 20) × Small n ⌝ }
     ensures { λ r. ⌜ r ≡ mode2 quarters n ⌝ }
 {
-    hold_high(enhance(quarters, n, across(n)))
+    hold(enhance(quarters, n, across(n)))
 }
 
 pub fn mode_3(quarters: u8, n: [[i32; 3]; 3]) -> i32
