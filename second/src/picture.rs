@@ -84,9 +84,8 @@ enum Edge {
 /// What step 5 does.
 #[derive(Clone, Copy, PartialEq, Eq)]
 enum OneD {
-    /// Nothing.
-    Off,
-    Positive,
+    /// The pixel as it is, for the positive setting and where there is no 1-D filter.
+    Plain,
     Negative,
     /// The pixel less the one a row below.
     Difference,
@@ -106,8 +105,6 @@ struct Sensor<'a> {
     edge: Edge,
     /// The pixel itself is added to its edge value.
     enhances: bool,
-    /// What step 4 is held to.
-    range: (i16, i16),
     ratio: i16,
     one_d: OneD,
     matrix: &'a [u8],
@@ -129,9 +126,8 @@ impl<'a> Sensor<'a> {
         };
         let one_d = match (mode, registers[0] >> 1 & 3) {
             (0 | 2 | 3, 0) => OneD::Negative,
-            (0 | 2 | 3, 1) => OneD::Positive,
-            (0 | 2 | 3, _) => OneD::Difference,
-            _ => OneD::Off,
+            (0 | 2 | 3, 2 | 3) => OneD::Difference,
+            _ => OneD::Plain,
         };
         Sensor {
             frame: frame
@@ -141,7 +137,6 @@ impl<'a> Sensor<'a> {
             flip: if registers[4] & 8 != 0 { 255 } else { 0 },
             edge,
             enhances,
-            range: if mode == 2 { (0, 255) } else { (-128, 127) },
             ratio: RATIOS[usize::from(ratio)],
             one_d,
             matrix: &registers[MATRIX..],
@@ -223,18 +218,16 @@ impl<'a> Sensor<'a> {
     /// Weighs the edge values; at most 1,020 × 20 + 512 quarters, so 16 bits hold them.
     fn sharpen(&self, out: &mut [i16], p: &[i16], edge: impl Fn(usize) -> i16) {
         let base = if self.enhances { 4 } else { 0 };
-        let (least, most) = self.range;
         for (i, out) in out.iter_mut().enumerate() {
             let quarters = base * p[i] + edge(i) * self.ratio;
-            *out = (quarters / 4).clamp(least, most);
+            *out = held(quarters / 4);
         }
     }
 
     /// Step 5 for a row, given the one below if it counts.
     fn filter_one_d(&self, row: &mut [i16], below: &[i16]) {
         match self.one_d {
-            OneD::Off => {}
-            OneD::Positive => row.iter_mut().for_each(|p| *p = held(*p)),
+            OneD::Plain => {}
             OneD::Negative => row.iter_mut().for_each(|p| *p = held(-*p)),
             OneD::Difference => row
                 .iter_mut()

@@ -113,6 +113,45 @@ fn quarters_are_cut_toward_zero_on_the_plate() {
 }
 
 #[test]
+fn mode_2_keeps_what_is_darker_than_the_middle() {
+    assert_eq!(step_4(2, 3, -20, 0, 0, -20, -20), -20);
+    assert_eq!(step_4(2, 7, -100, 0, 0, 100, 100), -128);
+    assert_eq!(step_4(2, 7, 100, 0, 0, -100, -100), 127);
+    let mut taken = with(false, 0x100);
+    (taken[1], taken[4]) = (0x20, 0x30);
+    assert_eq!(value_at(&[source(-20); 16_384], &taken), 108);
+    // The negative setting and the difference start from the same value.
+    taken[0] = 1;
+    assert_eq!(value_at(&[source(-20); 16_384], &taken), 148);
+    taken[0] = 5;
+    assert_eq!(value_at(&[source(-20); 16_384], &taken), 128);
+}
+
+#[test]
+fn mode_2_is_held_before_the_1_d_filter() {
+    // At 500 per cent, a dark column among bright ones and below it a level row.
+    let mut frame = [source(0); 16_384];
+    let centre = 68 * 128 + 64;
+    frame[centre - 1..=centre + 1].copy_from_slice(&[source(60), source(-60), source(60)]);
+    let mut taken = with(false, 0x100);
+    (taken[1], taken[4]) = (0x20, 0x70);
+    for (start, value) in [(3, 0), (1, 255), (5, 0)] {
+        taken[0] = start;
+        assert_eq!(value_at(&frame, &taken), value);
+    }
+    // The other way round, less the row below at -60.
+    frame[centre - 1..=centre + 1].copy_from_slice(&[source(-60), source(60), source(-60)]);
+    frame[centre + 127..=centre + 129].fill(source(-60));
+    for (start, value) in [(3, 255), (1, 1), (7, 255)] {
+        taken[0] = start;
+        assert_eq!(value_at(&frame, &taken), value);
+    }
+    frame[centre + 127..=centre + 129].fill(source(60));
+    taken[0] = 7;
+    assert_eq!(value_at(&frame, &taken), 128 + 127 - 60);
+}
+
+#[test]
 fn negative_of_the_least() {
     assert_eq!(step_5(0, 1, -128, 0), 127);
     let mut taken = with(false, 0);

@@ -30,7 +30,7 @@ pub fn step_4(mode: u8, ratio: u8, p: i32, n: i32, s: i32, w: i32, e: i32) -> i3
     match mode {
         0 => p,
         1 => 0,
-        2 => cut(100 * p + (2 * p - w - e) * alpha).clamp(0, 255),
+        2 => cut(100 * p + (2 * p - w - e) * alpha).clamp(-128, 127),
         3 => cut((2 * p - w - e) * alpha).clamp(-128, 127),
         0xC => cut(100 * p + (2 * p - n - s) * alpha).clamp(-128, 127),
         0xD => cut((2 * p - n - s) * alpha).clamp(-128, 127),
