@@ -23,6 +23,7 @@
  *   5  the address is outside 0000-7FFF and A000-BFFF
  *   6  an image row is above 7F or not 128 bytes, so no script line says it
  *   7  a buffer lent is too short
+ *   8  a file is not one that can be read
  *
  * The memory lent to one call must not overlap, and is not kept after the call.
  */
@@ -121,6 +122,12 @@ uint64_t gulxinett_record_row(uint8_t row,
  * stands. Refused as 3, then as 7. Value: 14351. */
 uint64_t gulxinett_export(const uint8_t *ram, size_t ram_len,
                           uint8_t *out, size_t out_len);
+
+/* Reads a colour photograph, a Netpbm file of kind P6, 128 by 128 pixels with largest value 255, into an
+ * image of 16,384 bytes: (2R + 5G + B) / 8 of each pixel, rounded down. Refused as 4, then as 8;
+ * the image then stays as it is. Value 0. */
+uint64_t gulxinett_import_photo(const uint8_t *file, size_t file_len,
+                                uint8_t *image, size_t image_len);
 
 #ifdef __cplusplus
 }

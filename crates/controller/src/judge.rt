@@ -24,6 +24,7 @@ impl Refusal {
             Refusal::Address => 5,
             Refusal::Line => 6,
             Refusal::Room => 7,
+            Refusal::File => 8,
         }
     }
 }

@@ -32,6 +32,7 @@ pub enum Refusal {
     Address,
     Line,
     Room,
+    File,
 }
 
 // What judging a call comes to.

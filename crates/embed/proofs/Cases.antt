@@ -35,9 +35,10 @@ use Rattle.lines.specs.Record.{Recording, recorded, recordMeans}
 use Rattle.lines.proofs.Recorded.{record-most}
 use Rattle.plates.specs.declared.grey.Output.{Output}
 use Rattle.plates.specs.Grey.{exported, outputNumber, outputValue, exportMeans}
+use Rattle.photos.specs.Photo.{imported, importMeans}
 use Rattle.embed.specs.Layout.{encoded, isRecord, decoded}
 use Rattle.embed.specs.Packed.{packed}
-use Rattle.embed.specs.Exports.{called, asBytes, noRecord, unread, resetBytes, readBytes, writeBytes, tickBytes, inspected, inspectBytes, filled, asDrawn, pictureBytes, asLine, recordBytes, asWritten, exportBytes}
+use Rattle.embed.specs.Exports.{called, asBytes, noRecord, unread, resetBytes, readBytes, writeBytes, tickBytes, inspected, inspectBytes, filled, asDrawn, pictureBytes, asLine, recordBytes, asWritten, exportBytes, asRead, importBytes}
 use Rattle.embed.proofs.Inverse.{encode-decode}
 
 -- an outcome with a number hands back the state given and changes no byte lent
@@ -201,3 +202,10 @@ module _ (ram out : List ℕ) (r : Output) (left : List ℕ) (means : exported (
   pub export-written : (x : Output) → r ≡ x → (p : ℕ) → p ≡ packed (outputNumber x) (outputValue x) → filled p left ≡ exportBytes ram out
   unfolding exportBytes
   export-written x f p q = (λ i. filled (q i) left) ∙ ap asWritten (ap (λ y. exported (outputNumber y) (outputValue y) left) (sym f) ∙ means)
+
+-- ---- a photograph
+
+module _ (file image : List ℕ) (r : WriteAnswer) (now : List ℕ) (means : imported (writeNumber r) now ≡ importMeans file image) where
+  pub import-read : (x : WriteAnswer) → r ≡ x → (p : ℕ) → p ≡ packed (writeNumber x) 0 → filled p now ≡ importBytes file image
+  unfolding importBytes
+  import-read x f p q = (λ i. filled (q i) now) ∙ ap asRead (ap (λ y. imported (writeNumber y) now) (sym f) ∙ means)

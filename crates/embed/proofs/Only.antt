@@ -22,9 +22,10 @@ use Rattle.lines.specs.declared.line.Frame.{Frame}
 use Rattle.lines.specs.Record.{recordMeans}
 use Rattle.lines.proofs.Recorded.{record-most}
 use Rattle.plates.specs.Grey.{Exported, exportRows, exportMeans}
+use Rattle.photos.specs.Photo.{importMeans}
 use Rattle.embed.specs.Layout.{isRecord, decoded}
 use Rattle.embed.specs.Packed.{packed}
-use Rattle.embed.specs.Exports.{readBytes, writeBytes, tickBytes, elementValue, inspectBytes, recordBytes, exportBytes}
+use Rattle.embed.specs.Exports.{readBytes, writeBytes, tickBytes, elementValue, inspectBytes, recordBytes, exportBytes, importBytes}
 use Rattle.embed.proofs.Cases.{read-done, write-done, tick-done, inspect-done}
 
 -- the number stands above 2^32, and the value below
@@ -113,3 +114,8 @@ export-small ram out = judged-ind (λ (e : Exported). e .value < 4294967296) (lo
 pub export-says : (ram out : List ℕ) → Says (exportBytes ram out .answer) (exportMeans ram out .number) (exportMeans ram out .value)
 unfolding exportBytes
 export-says ram out = packed-says _ _ (export-small ram out)
+
+-- a photograph's answer
+pub import-says : (file image : List ℕ) → Says (importBytes file image .answer) (importMeans file image .number) 0
+unfolding importBytes
+import-says file image = packed-says _ _ (omega arith)

@@ -13,6 +13,7 @@ use Rattle.controller.specs.Picture.{Afresh, pictureMeans}
 use Rattle.lines.specs.declared.line.Frame.{Frame}
 use Rattle.lines.specs.Record.{Recording, recordMeans}
 use Rattle.plates.specs.Grey.{Exported, exportMeans}
+use Rattle.photos.specs.Photo.{Imported, importMeans}
 use Rattle.embed.specs.Layout.{encoded, isRecord, decoded}
 use Rattle.embed.specs.Packed.{packed}
 
@@ -92,3 +93,10 @@ asWritten e = filled (packed (e .number) (e .value)) (e .bytes)
 -- the picture area as a grey image
 unfoldable pub exportBytes : List ℕ → List ℕ → Filled
 exportBytes ram out = asWritten (exportMeans ram out)
+
+-- a photograph read into a lent image
+abbrev pub asRead : Imported → Filled
+asRead i = filled (packed (i .number) 0) (i .image)
+
+unfoldable pub importBytes : List ℕ → List ℕ → Filled
+importBytes file image = asRead (importMeans file image)

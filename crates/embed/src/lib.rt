@@ -17,11 +17,12 @@ use layout::decode;
 use layout::encode;
 use layout::is_record;
 use layout::wide;
+use photos::photo::import;
 use plates::grey::Output;
 use plates::grey::export;
 ghost use mathlib.Core.Path.{_≡_};
 ghost use mathlib.Core.List.{[]};
-ghost use Rattle.embed.specs.Exports.{called, resetBytes, readBytes, writeBytes, tickBytes, inspectBytes, filled, pictureBytes, exportBytes};
+ghost use Rattle.embed.specs.Exports.{called, resetBytes, readBytes, writeBytes, tickBytes, inspectBytes, filled, pictureBytes, exportBytes, importBytes};
 
 // Writes the reset record.
 #[no_mangle]
@@ -139,5 +140,17 @@ pub extern "C" fn gulxinett_export(ram: &[u8], out: &mut [u8]) -> u64
     match answer {
         Output::Bytes(n) => pack(0, n),
         Output::Refused(why) => refused(why),
+    }
+}
+
+// Reads a photograph, a Netpbm file of kind P6, into an image.
+#[no_mangle]
+pub extern "C" fn gulxinett_import_photo(file: &[u8], image: &mut [u8]) -> u64
+    ensures { λ r. ⌜ filled r (now (image .exit)) ≡ importBytes (now (file .entry)) (now (image .entry)) ⌝ }
+{
+    let answer = import(file, image);
+    match answer {
+        WriteAnswer::Done => pack(0, 0),
+        WriteAnswer::Refused(why) => refused(why),
     }
 }

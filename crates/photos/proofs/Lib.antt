@@ -1,0 +1,5 @@
+-- Laws of photographs.
+pub mod Bytewise
+pub mod Imports
+pub mod Grammar
+pub mod Accepted
