@@ -18,6 +18,8 @@ pub enum Refusal {
     Line = 6,
     /// A buffer lent for output is too short.
     Buffer = 7,
+    /// A file is not of the one kind that is read.
+    File = 8,
 }
 
 impl Refusal {

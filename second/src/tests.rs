@@ -1,6 +1,7 @@
 //! Tests: the paper's figures and session, a slow reading of the paper, and the edges of everything.
 
 mod calls;
+mod colour;
 mod figures;
 mod grey;
 mod lines;
