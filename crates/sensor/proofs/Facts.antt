@@ -1,6 +1,6 @@
 -- The ranges that the definitions keep. Assumes nothing.
-use mathlib.Core.Bool.{Bool, true, false}
-use mathlib.Core.List.{List}
+use mathlib.Core.Bool.{Bool, true, false, _&&_}
+use mathlib.Core.List.{List, [], _∷_}
 use mathlib.Core.Path.{_≡_, refl, ap, _∙_}
 use Prim.Native.Nat.{ℕ, zero, suc, _+_, _/_, _%_, _≤_, _<_}
 use native.Mathlib.Omega.{arith}
@@ -10,14 +10,15 @@ use lib.ListN.{getD}
 use lib.Signed.{mag, ltZ, nonNeg, pos-natAbs}
 use mir.Syntax.{w32}
 use mir.Val.{SFits, toZ, ofZ}
-use mir.Facts.{toZ-ofZ}
-use lib.Dec.{T, eqb, ltb, lit<, lit≤}
+use mir.Facts.{toZ-ofZ, and-yes}
+use lib.Dec.{T, eqb, ltb, ltb→lt, lit<, lit≤}
 use Rattle.laws.specs.Pick.{pick}
+use Rattle.laws.proofs.Table.{at}
 use Rattle.laws.proofs.Pick.{pick-ind, never}
 use Rattle.laws.proofs.Signed.{sub-ind, abs-mag}
 use Rattle.sensor.specs.declared.Setting.{Setting}
 use Rattle.sensor.specs.Taken.{exposureOf, alphas, quartersOf, settingOf, Sane}
-use Rattle.sensor.specs.Light.{exposed, turned, lightOf, litOf}
+use Rattle.sensor.specs.Light.{adaptedZ, exposed, turned, lightOf, litOf}
 use Rattle.sensor.specs.Edge.{between, held, nine, Small, mode2, mode3, modeC, modeD, modeE, modeF, edgeOf, isPlain, signedAt, threeOf, nineOf, step4}
 use Rattle.sensor.specs.Row.{passes, rowFilter, step5}
 use Rattle.sensor.specs.Shade.{valueAt, element, shadeOf, shadeAt}
@@ -41,6 +42,17 @@ held-small (pos n) = pick-ind (λ z. mag z < 128) (ltb 127 n) (λ e. lit< tt) (�
 held-small (negsuc n) = pick-ind (λ z. mag z < 128) (ltb 127 n) (λ e. lit< tt) (λ e. omega (arith, ltb-false 127 n e))
 
 -- ---- the light
+
+-- step 1 of a byte is a byte, by one test of all 256
+none : ℕ → List ℕ
+none zero = []
+none (suc n) = 0 ∷ none n
+
+pub adapted-byte : (v : ℕ) → v < 256 → T (nonNeg (adaptedZ v)) × (natAbs (adaptedZ v) < 256)
+unfolding adaptedZ none
+adapted-byte v h =
+    let p = and-yes (nonNeg (adaptedZ v)) (ltb (natAbs (adaptedZ v)) 256) (at (λ k x. nonNeg (adaptedZ k) && ltb (natAbs (adaptedZ k)) 256) (none 256) tt v h) in
+    (p .0, ltb→lt (natAbs (adaptedZ v)) 256 (p .1))
 
 -- the light of any byte is a byte
 pub light-small : (set : Setting) (v : ℕ) → lightOf set v < 256
