@@ -23,14 +23,15 @@ fn shade_at(frame: &[u8], taken: &[u8; 54], x: usize, y: usize) -> u8 {
     bit(plate[place]) + 2 * bit(plate[place + 1])
 }
 
-/// The value 0 to 255 that pixel (64, 60) reaches the matrix with, found by trying every L.
+/// The value 0 to 255 that pixel (64, 60) reaches the matrix with, the greatest L that is not black.
 fn value_at(frame: &[u8], taken: &[u8; 54]) -> u8 {
     let black = |l: u8| {
         let mut taken = *taken;
         taken[6..].fill(l);
         shade_at(frame, &taken, 64, 60) == 3
     };
-    (0..=255).rev().find(|&l| !black(l)).unwrap()
+    let levels: [u8; 256] = std::array::from_fn(|l| l as u8);
+    levels[levels.partition_point(|&l| !black(l)) - 1]
 }
 
 #[test]
@@ -75,6 +76,20 @@ fn first_picture_pixel() {
 fn step_1() {
     for (v, adapted) in [(0, 48), (126, 127), (129, 128), (130, 129), (255, 207)] {
         assert_eq!(value_at(&[v; 16_384], &with(false, 0x100)), adapted);
+    }
+}
+
+#[test]
+fn step_1_for_every_light() {
+    for v in 0..=255_u8 {
+        // Cut toward zero on either side of the middle.
+        let adapted = if v < 128 {
+            128 - (128 - u32::from(v)) * 5 / 8
+        } else {
+            128 + (u32::from(v) - 128) * 5 / 8
+        };
+        let value = value_at(&[v; 16_384], &with(false, 0x100));
+        assert_eq!(u32::from(value), adapted, "{v}");
     }
 }
 
