@@ -26,7 +26,8 @@ use Rattle.controller.specs.Capture.{ticks, from}
 use Rattle.controller.specs.Table.{Row, before, lowest, judged}
 use Rattle.controller.specs.Calls.{refusal, readRows, byteOf, readMeans, writeRows, wrote, writeMeans, tickRows, ticked, tickMeans}
 use Rattle.controller.specs.Picture.{Afresh, afresh, pictureRows, pictureMeans}
-use Rattle.controller.specs.Inspect.{firstIn, named, noElement, inspectRows, inspectMeans}
+use Rattle.matrix.specs.Matrix.{firstIn}
+use Rattle.controller.specs.Inspect.{named, noElement, inspectRows, inspectMeans}
 use Rattle.controller.proofs.Only.{some-number}
 
 -- a row of this number holds

@@ -3,38 +3,8 @@ use super::Controller;
 use super::Element;
 use super::Verdict;
 ghost use mathlib.Core.Path.{_≡_};
-ghost use mathlib.Core.Bool.{Bool};
-ghost use Prim.Native.Nat.{ℕ, _+_, _*_, _<_, _≤_};
 ghost use Rattle.controller.specs.Outcome.{inspection};
-ghost use Rattle.controller.specs.Inspect.{reversed, firstIn, inspectMeans};
-
-// Whether L > M or M > H in the element of a row and column.
-fn is_reversed(regs: &[u8; 54], row: usize, column: usize) -> bool
-    requires { ⌜ (row < 4) × (column < 4) ⌝ }
-    ensures { λ r. ⌜ r ≡ reversed (now (regs .entry)) row column ⌝ }
-{
-    let at = 6 + 3 * (4 * row + column);
-    if regs[at + 1] < regs[at] {
-        return true;
-    }
-    regs[at + 2] < regs[at + 1]
-}
-
-// The number of the first reversed element, by rows and then columns; 16 where there is none.
-fn first_reversed(regs: &[u8; 54]) -> usize
-    ensures { λ r. ⌜ r ≡ firstIn (now (regs .entry)) 0 16 ⌝ }
-{
-    let mut first = 16;
-    'rows: for row in 0..4 {
-        for column in 0..4 {
-            if is_reversed(regs, row, column) {
-                first = 4 * row + column;
-                break 'rows;
-            }
-        }
-    }
-    first
-}
+ghost use Rattle.controller.specs.Inspect.{inspectMeans};
 
 impl Controller {
     // The first reversed element of the current registers.
@@ -46,7 +16,7 @@ impl Controller {
             return Element::Refused(why);
         }
         let regs = self.registers;
-        let first = first_reversed(&regs);
+        let first = matrix::first_reversed(&regs);
         if 16 <= first {
             return Element::Level;
         }

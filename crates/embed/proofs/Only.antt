@@ -15,7 +15,8 @@ use Rattle.controller.specs.Outcome.{Outcome, Inspection}
 use Rattle.controller.specs.Bus.{registersOn, romRead, byteRead}
 use Rattle.controller.specs.Capture.{Ticking, running, runs, cycle, ticks, from}
 use Rattle.controller.specs.Calls.{refusal, readMeans, writeMeans, tickMeans}
-use Rattle.controller.specs.Inspect.{firstIn, named, inspectMeans, inspectRows}
+use Rattle.matrix.specs.Matrix.{firstIn}
+use Rattle.controller.specs.Inspect.{named, inspectMeans, inspectRows}
 use Rattle.controller.specs.Table.{Row, lowest}
 use Rattle.controller.proofs.Refusals.{Refuses, inOutcome, read-refuses, write-refuses, tick-refuses, judged-ind}
 use Rattle.lines.specs.declared.line.Frame.{Frame}

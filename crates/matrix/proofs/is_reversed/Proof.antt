@@ -1,11 +1,11 @@
--- `controller::inspect::is_reversed` meets its contract. Assumes nothing.
+-- `matrix::is_reversed` meets its contract. Assumes nothing.
 use mathlib.Core.Path.{sym}
-use Rattle.controller.proofs.First.{reversed-left, reversed-right}
-use Rattle.controller.specs.Inspect.{reversed}
+use Rattle.matrix.proofs.First.{reversed-left, reversed-right}
+use Rattle.matrix.specs.Matrix.{reversed}
 use borrow.Author.Tests.{eq-eqb, ne-eqb, lt-ltb, le-ltb, lt-leb, le-leb}
 use borrow.Author.Needs.{needs}
-use Rattle.controller.proofs.inspect.is_reversed.Statement.{statement}
-use Rattle.controller.proofs.inspect.is_reversed.Tie as tie
+use Rattle.matrix.proofs.is_reversed.Statement.{statement}
+use Rattle.matrix.proofs.is_reversed.Tie as tie
 
 mul-at : tie.Need-mul-at
 mul-at c = search needs

@@ -1,12 +1,12 @@
--- `controller::inspect::first_reversed` meets its contract: what is left to look at is what there was at first. Assumes nothing.
+-- `matrix::first_reversed` meets its contract: what is left to look at is what there was at first. Assumes nothing.
 use lib.ListN.{length}
-use Rattle.controller.proofs.First.{first-skip, first-hit, first-none}
+use Rattle.matrix.proofs.First.{first-skip, first-hit, first-none}
 use Prim.Native.Nat.{_+_, _-_, _*_, _<_, _≤_}
 use mathlib.Core.Path.{_≡_, refl, sym, ap, _∙_}
-use Rattle.controller.specs.Inspect.{firstIn}
+use Rattle.matrix.specs.Matrix.{firstIn}
 use native.Mathlib.Omega.{arith}
-use Rattle.controller.proofs.inspect.first_reversed.Statement.{statement}
-use Rattle.controller.proofs.inspect.first_reversed.Tie as tie
+use Rattle.matrix.proofs.first_reversed.Statement.{statement}
+use Rattle.matrix.proofs.first_reversed.Tie as tie
 
 abbrev Inv-loop : tie.InvT-loop
 Inv-loop regs first₀ row column₀ first column = (row < 4) × (column ≤ 4) × (first ≡ 16) × (firstIn regs 0 16 ≡ firstIn regs (4 * row + column) (16 - (4 * row + column)))

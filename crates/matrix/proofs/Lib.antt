@@ -1,0 +1,2 @@
+-- Laws of the matrix.
+pub mod First

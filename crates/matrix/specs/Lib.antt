@@ -1,0 +1,2 @@
+-- The matrix of thresholds.
+pub mod Matrix
