@@ -6,7 +6,7 @@ use Prim.Native.Nat.{ℕ, zero, suc}
 use native.Mathlib.Omega.{arith}
 use Rattle.controller.specs.declared.Cycles.{Cycles}
 use Rattle.controller.specs.declared.Refusal.{Refusal}
-use Rattle.controller.specs.declared.Refusal.the-variants.{State, Rom, Ram, Frame, Address, Line, Room, File}
+use Rattle.controller.specs.declared.Refusal.the-variants.{State, Rom, Ram, Frame, Address, Line, Room, File, Choice}
 use Rattle.controller.specs.declared.ReadAnswer.{ReadAnswer}
 use Rattle.controller.specs.declared.ReadAnswer.the-variants as reads
 use Rattle.controller.specs.declared.WriteAnswer.{WriteAnswer}
@@ -30,7 +30,8 @@ refusalOf (suc (suc (suc (suc zero)))) = Frame
 refusalOf (suc (suc (suc (suc (suc zero))))) = Address
 refusalOf (suc (suc (suc (suc (suc (suc zero)))))) = Line
 refusalOf (suc (suc (suc (suc (suc (suc (suc zero))))))) = Room
-refusalOf (suc (suc (suc (suc (suc (suc (suc (suc n)))))))) = File
+refusalOf (suc (suc (suc (suc (suc (suc (suc (suc zero)))))))) = File
+refusalOf (suc (suc (suc (suc (suc (suc (suc (suc (suc n))))))))) = Choice
 
 back : (r : Refusal) → refusalOf (numberOf r) ≡ r
 unfolding refusalOf
@@ -42,6 +43,7 @@ back Address = refl
 back Line = refl
 back Room = refl
 back File = refl
+back Choice = refl
 
 pub only-number : (r s : Refusal) → numberOf r ≡ numberOf s → r ≡ s
 only-number r s e = sym (back r) ∙ ap refusalOf e ∙ back s
@@ -56,6 +58,7 @@ some-number Address e = omega arith
 some-number Line e = omega arith
 some-number Room e = omega arith
 some-number File e = omega arith
+some-number Choice e = omega arith
 
 read-answer : (a b : ReadAnswer) → readNumber a ≡ readNumber b → readValue a ≡ readValue b → a ≡ b
 read-answer (reads.Byte x) (reads.Byte y) n v = ap reads.Byte v

@@ -25,6 +25,7 @@ impl Refusal {
             Refusal::Line => 6,
             Refusal::Room => 7,
             Refusal::File => 8,
+            Refusal::Choice => 9,
         }
     }
 }

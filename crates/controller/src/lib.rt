@@ -33,6 +33,7 @@ pub enum Refusal {
     Line,
     Room,
     File,
+    Choice,
 }
 
 // What judging a call comes to.
