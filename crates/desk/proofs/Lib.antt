@@ -1,0 +1,5 @@
+-- Laws of a choice.
+pub mod Registers
+pub mod Choices
+pub mod Rising
+pub mod Level
