@@ -1,6 +1,6 @@
 -- A choice: when it is refused, and that no second outcome fits. Assumes nothing.
 use mathlib.Core.Path.{_≡_, refl}
-use mathlib.Core.Bool.{Bool, true, false, _||_}
+use mathlib.Core.Bool.{Bool, true, false, not, _||_}
 use mathlib.Core.List.{List, []}
 use Prim.Native.Nat.{ℕ, _≤_}
 use lib.Dec.{eqb, ltb}
@@ -16,7 +16,7 @@ use Rattle.controller.proofs.Exists.{neither-left, neither-right}
 use Rattle.controller.proofs.Only.{only-write}
 use Rattle.controller.proofs.Refusals.{Refuses, inOutcome, refuses, risingFrom, first-fails}
 use Rattle.desk.specs.declared.choice.Exposure.{Exposure}
-use Rattle.desk.specs.Choice.{chooseRows, chosen, chooseMeans}
+use Rattle.desk.specs.Choice.{beyond, chooseRows, chosen, chooseMeans}
 
 module _ (c : Controller) (light level : ℕ) where
   -- a choice is refused by the lowest number of its rows, and only then
@@ -41,6 +41,15 @@ module _ (c : Controller) (light level : ℕ) where
         light-fits = ltb-false 1 light (neither-left _ _ n);
         level-fits = ltb-false 15 level (neither-right (ltb 1 light) _ n);
       }
+
+  -- no number is given to a state that can exist just where the light set and the level are ones of the table
+  pub choose-none : cantExist c ≡ false → eqb (lowest (chooseRows c light level)) 0 ≡ not (beyond light level)
+  unfolding chooseRows lowest
+  choose-none e = rw e (by-test (beyond light level))
+    where
+      by-test : (b : Bool) → eqb (pick b 9 0) 0 ≡ not b
+      by-test true = refl
+      by-test false = refl
 
 -- one answer and one state
 pub only-choose : (r s : WriteDone) → writeOutcome r [] [] ≡ writeOutcome s [] [] → r ≡ s

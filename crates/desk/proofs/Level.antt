@@ -12,7 +12,8 @@ use Rattle.controller.specs.declared.Controller.{Controller}
 use Rattle.controller.specs.State.{started, leftOver, wrongCapture, cantExist}
 use Rattle.controller.specs.Outcome.{Inspection}
 use Rattle.controller.specs.Table.{lowest}
-use Rattle.controller.specs.Inspect.{reversed, firstIn, named, inspectRows, inspectMeans}
+use Rattle.matrix.specs.Matrix.{reversed, firstIn}
+use Rattle.controller.specs.Inspect.{named, inspectRows, inspectMeans}
 use Rattle.controller.proofs.Exists.{exists-parts, exists-whole}
 use Rattle.desk.specs.declared.choice.Exposure.{Exposure}
 use Rattle.desk.specs.Choice.{stepsOf, valueOf, stored, timed, registersChosen, withRegisters, chooseRows, chooseMeans}
@@ -22,6 +23,13 @@ use Rattle.desk.proofs.Rising.{value-rises}
 
 timed-length : (regs : List ℕ) (n : ℕ) → length (timed regs n) ≡ length regs
 timed-length regs n = length-set (set regs 2 (n / 256)) 3 (n % 256) ∙ length-set regs 2 (n / 256)
+
+-- a state whose register 0 stays still can exist
+pub exists-with : (c : Controller) (regs : List ℕ) → cantExist c ≡ false → getD regs 0 0 ≡ getD (c .registers) 0 0 → cantExist (withRegisters c regs) ≡ false
+unfolding withRegisters leftOver wrongCapture
+exists-with c regs e f =
+    let p = exists-parts c e in
+    exists-whole _ (record { bank = p .bank; select = p .select; first = rw f (p .first); holds = rw f (p .holds); nothing = p .nothing; capture = p .capture })
 
 module _ (light level : ℕ) (plain : Bool) (exposure : Exposure) where
   -- as many registers as before
@@ -37,13 +45,8 @@ module _ (light level : ℕ) (plain : Bool) (exposure : Exposure) where
       ∙ getD-set-other (set regs 2 (stepsOf exposure / 256)) 3 0 (stepsOf exposure % 256) 0 (λ z. omega arith)
       ∙ getD-set-other regs 2 0 (stepsOf exposure / 256) 0 (λ z. omega arith)
 
-  -- so the state still can exist
   pub chosen-exists : (c : Controller) → cantExist c ≡ false → cantExist (withRegisters c (registersChosen (c .registers) light level plain exposure)) ≡ false
-  unfolding withRegisters leftOver wrongCapture
-  chosen-exists c e =
-      let p = exists-parts c e in
-      let f = chosen-first (c .registers) in
-      exists-whole _ (record { bank = p .bank; select = p .select; first = rw f (p .first); holds = rw f (p .holds); nothing = p .nothing; capture = p .capture })
+  chosen-exists c e = exists-with c _ e (chosen-first (c .registers))
 
   module _ (regs : List ℕ) (wide : length regs ≡ 54) where
     abbrev after : List ℕ

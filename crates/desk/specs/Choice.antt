@@ -56,9 +56,13 @@ withRegisters c regs = record {
   elapsed = c .elapsed;
 }
 
--- 9: a light set above 1 or a level above 15
+-- a light set above 1 or a level above 15
+abbrev pub beyond : ℕ → ℕ → Bool
+beyond light level = ltb 1 light || ltb 15 level
+
+-- 9 is given for it
 abbrev pub noChoice : ℕ → ℕ → Row
-noChoice light level = row refusals.Choice (ltb 1 light || ltb 15 level)
+noChoice light level = row refusals.Choice (beyond light level)
 
 -- Refusals: 1, then 9
 unfoldable pub chooseRows : Controller → ℕ → ℕ → List Row

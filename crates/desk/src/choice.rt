@@ -7,14 +7,13 @@ use controller::WriteAnswer;
 use controller::WriteDone;
 use controller::judge::refused_if;
 ghost use mathlib.Core.Path.{_≡_};
-ghost use mathlib.Core.Bool.{Bool, _||_};
+ghost use mathlib.Core.Bool.{Bool};
 ghost use mathlib.Core.List.{[]};
 ghost use Prim.Native.Nat.{ℕ, _+_, _*_, _≤_};
-ghost use lib.Dec.{ltb};
 ghost use lib.ListN.{getD};
 ghost use Rattle.controller.specs.Outcome.{verdictNumber, writeOutcome};
 ghost use Rattle.controller.specs.Table.{lowest, before};
-ghost use Rattle.desk.specs.Choice.{stepsOf, shown, stored, timed, registersChosen, noChoice, chooseRows, chooseMeans};
+ghost use Rattle.desk.specs.Choice.{stepsOf, shown, stored, timed, registersChosen, beyond, noChoice, chooseRows, chooseMeans};
 
 // An exposure in steps, or none named.
 pub enum Exposure {
@@ -78,9 +77,9 @@ fn put_choice(regs: [u8; 54], light: u8, level: u8, plain: bool, exposure: Expos
     put_matrix(timed, &LEVELS, from, plain)
 }
 
-// Whether a light set or a level is none.
-fn is_none(light: u8, level: u8) -> bool
-    ensures { λ r. ⌜ r ≡ (ltb 1 light || ltb 15 level) ⌝ }
+// Whether the light set is above 1 or the level above 15.
+fn is_beyond(light: u8, level: u8) -> bool
+    ensures { λ r. ⌜ r ≡ beyond light level ⌝ }
 {
     if 1 < light {
         return true;
@@ -92,7 +91,7 @@ fn is_none(light: u8, level: u8) -> bool
 fn judge_choice(state: Controller, light: u8, level: u8) -> Verdict
     ensures { λ r. ⌜ verdictNumber r ≡ lowest (chooseRows state light level) ⌝ }
 {
-    state.no_state(refused_if(is_none(light, level), Refusal::Choice, Verdict::Fits))
+    state.no_state(refused_if(is_beyond(light, level), Refusal::Choice, Verdict::Fits))
 }
 
 // A choice: the matrix of a light set and a level, with its dithering or without (plain), and an exposure.

@@ -31,8 +31,11 @@ use Rattle.tiles.proofs.Pixels.{pixels-length}
 use Rattle.tiles.proofs.Run.{pixels-none}
 use Rattle.tiles.specs.Bulk.{pixels}
 use Rattle.controller.specs.Bulk.{doneBy}
-use Rattle.history.specs.History.{Call, reset, read, write, tick, inspect, World, fresh, leftBy, leaves, answers, refusalIn, countIn, after}
-use Rattle.history.specs.Track.{lands, landsAt, byteIn, Track, atReset, writeAccepted, tickAccepted, cyclesOf, runsIn, ends, enabling, selecting, storing, beginning, running, ending, controlled, registered, written, next, follow, told, seen, Told}
+use Rattle.desk.specs.declared.choice.Exposure.{Exposure}
+use Rattle.desk.specs.Choice.{beyond, registersChosen, withRegisters, chooseRows, chooseMeans}
+use Rattle.desk.proofs.Choices.{choose-none, choose-refuses}
+use Rattle.history.specs.History.{Call, reset, read, write, tick, inspect, choose, World, fresh, leftBy, leaves, answers, refusalIn, countIn, after}
+use Rattle.history.specs.Track.{lands, landsAt, byteIn, Track, atReset, writeAccepted, tickAccepted, choiceAccepted, cyclesOf, runsIn, ends, enabling, selecting, storing, beginning, running, ending, controlled, registered, written, next, follow, told, seen, Told}
 use Rattle.history.proofs.Picks.{paired, by-test, not-both}
 use Rattle.history.proofs.Reachable.{Sound, reset-sound, call-sound}
 
@@ -50,6 +53,16 @@ unfolding leaves writeMeans
 write-leaves w image a v e =
     judged-pick leftBy (lowest (writeRows (w .state) (w .ram) (w .store) image a)) _ w (λ k. refl)
     ∙ ap (λ t. pick t (worldOf (byteWritten (w .state) (w .ram) (w .store) image a v)) w) (write-none (w .state) (w .ram) (w .store) image a e)
+
+-- ---- a choice
+
+pub choose-leaves : (w : World) (light level : ℕ) (plain : Bool) (exposure : Exposure) → cantExist (w .state) ≡ false
+    → leaves w (choose light level plain exposure)
+    ≡ pick (not (beyond light level)) (record { state = withRegisters (w .state) (registersChosen (w .state .registers) light level plain exposure); ram = w .ram; store = w .store }) w
+unfolding leaves chooseMeans
+choose-leaves w light level plain exposure e =
+    judged-pick (λ (o : Outcome). record { state = o .state; ram = w .ram; store = w .store }) (lowest (chooseRows (w .state) light level)) _ w (λ k. refl)
+    ∙ ap (λ t. pick t (record { state = withRegisters (w .state) (registersChosen (w .state .registers) light level plain exposure); ram = w .ram; store = w .store }) w) (choose-none (w .state) light level e)
 
 -- a write leaves the RAM's length
 pub ram-length : (c : Controller) (ram : List ℕ) (a v : ℕ) → length (ramWritten c ram a v) ≡ length ram
@@ -300,6 +313,12 @@ module _ (w : World) (im : List ℕ) (own : w .state .held ≡ true → w .store
     unfolding next leaves
     inspect-told = stays
 
+    choose-told : (light level : ℕ) (plain : Bool) (exposure : Exposure) → Told (next (seen w im) (choose light level plain exposure)) (leaves w (choose light level plain exposure))
+    unfolding next choiceAccepted storing withRegisters
+    choose-told light level plain exposure =
+        rw (choose-leaves w light level plain exposure exists)
+        (paired Told (not (beyond light level)) (λ _. record { same = refl; own = own }) (λ _. stays))
+
     -- what is told after any call is what the world then shows
     call-told : (k : Call) → Told (next (seen w im) k) (leaves w k)
     call-told reset = reset-told
@@ -307,6 +326,7 @@ module _ (w : World) (im : List ℕ) (own : w .state .held ≡ true → w .store
     call-told (write image a v) = write-told image a v
     call-told (tick n) = tick-told n .told
     call-told inspect = inspect-told
+    call-told (choose light level plain exposure) = choose-told light level plain exposure
 
     -- the count returned is the count told
     call-count : (k : Call) → countIn (answers w k) ≡ runsIn (seen w im) k
@@ -316,12 +336,18 @@ module _ (w : World) (im : List ℕ) (own : w .state .held ≡ true → w .store
     call-count (write image a v) = refl
     call-count (tick n) = tick-told n .count
     call-count inspect = refl
+    call-count (choose light level plain exposure) = refl
 
     -- what is told accepted is answered with no refusal
     write-number : (image : List ℕ) (a v : ℕ) → eqb (refusalIn (answers w (write image a v))) 0 ≡ writeAccepted (seen w im) image a
     unfolding answers writeAccepted
     write-number image a v =
         ap (λ (n : ℕ). eqb n 0) (write-refuses c (w .ram) (w .store) image a v .numbered) ∙ write-none c (w .ram) (w .store) image a exists
+
+    choose-number : (light level : ℕ) (plain : Bool) (exposure : Exposure) → eqb (refusalIn (answers w (choose light level plain exposure))) 0 ≡ choiceAccepted light level
+    unfolding answers choiceAccepted
+    choose-number light level plain exposure =
+        ap (λ (n : ℕ). eqb n 0) (choose-refuses c light level plain exposure .numbered) ∙ choose-none c light level exists
 
     tick-number : (n : ℕ) → eqb (refusalIn (answers w (tick n))) 0 ≡ tickAccepted (seen w im)
     unfolding answers tickAccepted
@@ -363,6 +389,7 @@ module _ (w : World) (im : List ℕ) (own : w .state .held ≡ true → w .store
         ∙ ap (pick (lands (seen w im) (write image a v)) (set (w .ram) (landsAt (seen w im) (write image a v)) v)) (sym (none-put (write image a v) refl))
     call-ram (tick n) = tick-told n .ram
     call-ram inspect = sym (none-put inspect refl)
+    call-ram (choose light level plain exposure) = sym (none-put (choose light level plain exposure) refl)
 
 -- ---- along a history
 
@@ -433,7 +460,7 @@ module _ (ram store : List ℕ) (cs : List Call) where
   pub count-true : (k : Call) → countIn (answers (after (fresh ram store) cs) k) ≡ runsIn (told ram store cs) k
   count-true k = count-next t w m k
 
-  -- Accepted: the next write or tick is answered with no refusal just where the calls alone tell so
+  -- Accepted: the next write, tick or choice is answered with no refusal just where the calls alone tell so
   pub write-true : (image : List ℕ) (a v : ℕ) → eqb (refusalIn (answers (after (fresh ram store) cs) (write image a v))) 0 ≡ writeAccepted (told ram store cs) image a
   write-true image a v =
       subst (λ (u : Track). eqb (refusalIn (answers w (write image a v))) 0 ≡ writeAccepted u image a) (sym (m .told .same))
@@ -443,3 +470,6 @@ module _ (ram store : List ℕ) (cs : List Call) where
   tick-true n =
       subst (λ (u : Track). eqb (refusalIn (answers w (tick n))) 0 ≡ tickAccepted u) (sym (m .told .same))
       (tick-number w (t .image) (m .told .own) (m .sound .exists) n)
+
+  pub choose-true : (light level : ℕ) (plain : Bool) (exposure : Exposure) → eqb (refusalIn (answers (after (fresh ram store) cs) (choose light level plain exposure))) 0 ≡ choiceAccepted light level
+  choose-true light level plain exposure = choose-number w (t .image) (m .told .own) (m .sound .exists) light level plain exposure

@@ -1,6 +1,6 @@
 -- What is told of a capture, from its start on: nothing but a reset and its own end changes whose it is. Assumes nothing.
 use mathlib.Core.Path.{_≡_, refl, sym, ap, _∙_}
-use mathlib.Core.Bool.{true, false, not, _&&_, and-false}
+use mathlib.Core.Bool.{Bool, true, false, not, _&&_, and-false}
 use mathlib.Core.List.{List, [], _∷_, _++_}
 use Prim.Native.Nat.{ℕ, _+_, _%_}
 use native.Mathlib.Nat.{add-zero, zero-add, add-assoc}
@@ -10,8 +10,10 @@ use borrow.Author.Tests.{not-true, eqb-true}
 use Rattle.laws.specs.Bits.{isSet}
 use Rattle.laws.proofs.Pick.{pick-ind}
 use Rattle.laws.proofs.Bools.{both-left, both-right}
-use Rattle.history.specs.History.{Call, reset, read, write, tick, inspect, World, fresh, leaves, answers, countIn, after, counted}
-use Rattle.history.specs.Track.{Track, atReset, writeAccepted, cyclesOf, runsIn, ends, toRegisters, starts, imageIn, registersAt, enabling, selecting, storing, beginning, running, ending, controlled, registered, written, next, follow, told}
+use Rattle.desk.specs.declared.choice.Exposure.{Exposure}
+use Rattle.desk.specs.Choice.{registersChosen}
+use Rattle.history.specs.History.{Call, reset, read, write, tick, inspect, choose, World, fresh, leaves, answers, countIn, after, counted}
+use Rattle.history.specs.Track.{Track, atReset, writeAccepted, choiceAccepted, cyclesOf, runsIn, ends, toRegisters, starts, imageIn, registersAt, enabling, selecting, storing, beginning, running, ending, controlled, registered, written, next, follow, told}
 use Rattle.history.specs.Since.{isReset, goesOn, Held, Whole}
 use Rattle.history.proofs.Picks.{by-test, not-both}
 use Rattle.history.proofs.Follows.{Moment, at-reset, moment-next, moment-after, count-next}
@@ -42,6 +44,7 @@ start-of t (write image a v) h =
     (record { held = refl; image = refl; taken = refl; ran = refl })
 start-of t (tick n) h = not-both h refl
 start-of t inspect h = not-both h refl
+start-of t (choose light level plain exposure) h = not-both h refl
 
 -- a start runs no cycle
 pub start-count : (t : Track) (k : Call) → starts t k ≡ true → runsIn t k ≡ 0
@@ -51,6 +54,7 @@ start-count t (read rom a) h = refl
 start-count t (write image a v) h = refl
 start-count t (tick n) h = not-both h refl
 start-count t inspect h = refl
+start-count t (choose light level plain exposure) h = refl
 
 -- ---- a call that does not end it
 
@@ -87,6 +91,11 @@ module _ {image taken : List ℕ} {ran : ℕ} (t : Track) (o : Of image taken ra
       (λ _. pick-ind Same (ltb a 0x8000) (λ _. control-same a v) (λ _. pick-ind Same (isSet (t .select) 4) (λ _. registers-same lent (a % 128) v) (λ _. o)))
       (λ _. o)
 
+  chosen-same : (light level : ℕ) (plain : Bool) (exposure : Exposure) → Same (next t (choose light level plain exposure))
+  unfolding next storing
+  chosen-same light level plain exposure =
+      pick-ind Same (choiceAccepted light level) (λ _. changed (storing t (registersChosen (t .registers) light level plain exposure)) refl refl refl refl) (λ _. o)
+
   more : (u : Track) → Same u → Of image taken (ran + 0) u
   more u s = record { held = s .held; image = s .image; taken = s .taken; ran = s .ran ∙ sym (add-zero ran) }
 
@@ -98,6 +107,7 @@ module _ {image taken : List ℕ} {ran : ℕ} (t : Track) (o : Of image taken ra
   goes-next (write lent a v) r e = more (next t (write lent a v)) (written-same lent a v)
   goes-next (tick n) r e = rw e (record { held = o .held; image = o .image; taken = o .taken; ran = ap (λ (x : ℕ). x + runsIn t (tick n)) (o .ran) })
   goes-next inspect r e = more t o
+  goes-next (choose light level plain exposure) r e = more (next t (choose light level plain exposure)) (chosen-same light level plain exposure)
 
 -- ---- calls through which it goes on
 
@@ -128,6 +138,7 @@ end-count t (read rom a) h = not-both h refl
 end-count t (write image a v) h = not-both h refl
 end-count t (tick n) h = (both-left (t .held) _ h, eqb-true _ _ (both-right (t .held) _ h))
 end-count t inspect h = not-both h refl
+end-count t (choose light level plain exposure) h = not-both h refl
 
 pub end-next : (t : Track) (k : Call) → ends t k ≡ true → next t k .held ≡ false
 end-next t reset h = unfold ends in not-both h refl
@@ -135,6 +146,7 @@ end-next t (read rom a) h = unfold ends in not-both h refl
 end-next t (write image a v) h = unfold ends in not-both h refl
 end-next t (tick n) h = unfold next ending in rw h
 end-next t inspect h = unfold ends in not-both h refl
+end-next t (choose light level plain exposure) h = unfold ends in not-both h refl
 
 -- ---- no capture held
 
@@ -170,6 +182,10 @@ unfolding next ending running
 tick-was t n =
     pick-ind (λ (u : Track). u .held ≡ true → (t .held ≡ true) × (ends t (tick n) ≡ false)) (ends t (tick n)) (λ _ h. not-both h refl) (λ e h. (h, e))
 
+choice-was : (t : Track) (light level : ℕ) (plain : Bool) (exposure : Exposure) → Was t (next t (choose light level plain exposure))
+unfolding next storing
+choice-was t light level plain exposure = pick-ind (Was t) (choiceAccepted light level) (λ _ h. h) (λ _ h. h)
+
 reset-was : (t : Track) → next t reset .held ≡ true → ⊥
 unfolding next atReset
 reset-was t h = not-both h refl
@@ -181,6 +197,7 @@ was-held t (read rom a) s h = (unfold next in h, refl, unfold ends in refl)
 was-held t (write image a v) s h = (write-was t image a v s h, refl, unfold ends in refl)
 was-held t (tick n) s h = (tick-was t n h .0, refl, tick-was t n h .1)
 was-held t inspect s h = (unfold next in h, refl, unfold ends in refl)
+was-held t (choose light level plain exposure) s h = (choice-was t light level plain exposure h, refl, unfold ends in refl)
 
 -- no cycle runs, and none is held until a start
 pub rests-next : (t : Track) (k : Call) → t .held ≡ false → starts t k ≡ false → (runsIn t k ≡ 0) × (next t k .held ≡ false)
@@ -192,6 +209,7 @@ rests-next t k h s = (still k, by-test (next t k .held) (λ on. not-both (was-he
     still (write image a v) = unfold runsIn in refl
     still (tick n) = unfold runsIn in simp (h, and-false)
     still inspect = unfold runsIn in refl
+    still (choose light level plain exposure) = unfold runsIn in refl
 
 -- ---- lists of calls
 

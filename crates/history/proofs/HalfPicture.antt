@@ -24,7 +24,7 @@ use Rattle.controller.proofs.Exists.{neither-left, neither-right}
 use Rattle.tiles.proofs.Run.{pixels-none}
 use Rattle.controller.proofs.Range.{timed, done-mono, done-most, done-low}
 use Rattle.tiles.proofs.Pixels.{pixels-passed, pixels-others}
-use Rattle.history.specs.History.{Call, reset, read, write, tick, inspect, World, fresh, leaves, after, counted}
+use Rattle.history.specs.History.{Call, reset, read, write, tick, inspect, choose, World, fresh, leaves, after, counted}
 use Rattle.history.specs.Track.{Track, writeAccepted, runsIn, toRegisters, starts, imageIn, registersAt, lands, landsAt, byteIn, next, told}
 use Rattle.history.specs.Since.{Held, ofPixel, cycleOf, clear, goesOn}
 use Rattle.history.proofs.Picks.{by-test, not-both}
@@ -56,6 +56,7 @@ lands-count t (read rom a) h = refl
 lands-count t (write image a v) h = refl
 lands-count t (tick n) h = not-both h refl
 lands-count t inspect h = refl
+lands-count t (choose light level plain exposure) h = refl
 
 -- over a RAM of one bank at least
 starts-long : (t : Track) (k : Call) → starts t k ≡ true → 8192 ≤ t .ramSize
@@ -65,6 +66,7 @@ starts-long t (read rom a) h = not-both h refl
 starts-long t (write image a v) h = ram-lent (t .ramSize) (both-left (ramAllowed (t .ramSize)) _ (both-left _ _ (both-left _ _ h))) .least
 starts-long t (tick n) h = not-both h refl
 starts-long t inspect h = not-both h refl
+starts-long t (choose light level plain exposure) h = not-both h refl
 
 module _ (image regs old : List ℕ) (j : ℕ) (most : j < 14336) where
   abbrev fresh-shade : ℕ
@@ -152,6 +154,7 @@ starts-lands t (write image a v) h =
     simp (on, and-false)
 starts-lands t (tick n) h = refl
 starts-lands t inspect h = refl
+starts-lands t (choose light level plain exposure) h = refl
 
 start-ram : (t : Track) (w : World) (m : Moment t w) (k : Call) → starts t k ≡ true → leaves w k .ram ≡ w .ram
 start-ram t w m k h = rw (ram-next t w m k, starts-lands t k h, start-count t k h, add-zero (t .ran)) (pixels-none (w .store) (t .taken) (doneBy (t .taken) (t .ran)) (w .ram))

@@ -15,7 +15,7 @@ use Rattle.controller.proofs.Lent.{ram-inside}
 use Rattle.laws.proofs.Bools.{both-left}
 use Rattle.controller.proofs.Range.{done-most}
 use Rattle.tiles.proofs.Pixels.{pixels-length, pixels-outside}
-use Rattle.history.specs.History.{Call, reset, read, write, tick, inspect, World, fresh, leaves, after}
+use Rattle.history.specs.History.{Call, reset, read, write, tick, inspect, choose, World, fresh, leaves, after}
 use Rattle.history.specs.Track.{Track, atReset, writeAccepted, lands, landsAt, byteIn, next}
 use Rattle.history.specs.Since.{inArea, lastIn}
 use Rattle.history.proofs.Picks.{by-test, not-both}
@@ -29,6 +29,7 @@ lands-inside t (read rom a) h = not-both h refl
 lands-inside t (write image a v) h = ram-inside (t .ramSize) (t .select % 16) a (both-left (ramAllowed (t .ramSize)) _ (both-left _ _ h))
 lands-inside t (tick n) h = not-both h refl
 lands-inside t inspect h = not-both h refl
+lands-inside t (choose light level plain exposure) h = not-both h refl
 
 -- a place outside the area
 away : (p : ℕ) → inArea p ≡ false → 0x100 ≤ p → p < 0xF00 → ⊥

@@ -22,7 +22,7 @@ use Rattle.tiles.proofs.Pixels.{pixels-bytes}
 use Rattle.tiles.proofs.Area.{area-whole}
 use Rattle.plates.specs.Grey.{plateOf, plateAfresh}
 use Rattle.plates.proofs.Same.{afresh-plate}
-use Rattle.history.specs.History.{Call, reset, read, write, tick, inspect, World, fresh, leaves, after, counted}
+use Rattle.history.specs.History.{Call, reset, read, write, tick, inspect, choose, World, fresh, leaves, after, counted}
 use Rattle.history.specs.Track.{Track, tickAccepted, runsIn, starts, ends, imageIn, registersAt, lands, landsAt, byteIn, next, told}
 use Rattle.history.specs.Since.{Whole, inArea, ofPixel, clear, noStart, bytesIn}
 use Rattle.history.proofs.Picks.{by-test, not-both}
@@ -51,6 +51,7 @@ short-runs t (read rom a) h = refl
 short-runs t (write image a v) h = refl
 short-runs t (tick n) h = rw h
 short-runs t inspect h = refl
+short-runs t (choose light level plain exposure) h = refl
 
 bytes-next : (t : Track) (w : World) (m : Moment t w) (k : Call) → byteIn k < 256 → Bytes (w .ram) → Bytes (leaves w k .ram)
 bytes-next t w m k small b =
@@ -103,6 +104,7 @@ ends-lands t (read rom a) h = refl
 ends-lands t (write image a v) h = not-both h refl
 ends-lands t (tick n) h = refl
 ends-lands t inspect h = refl
+ends-lands t (choose light level plain exposure) h = refl
 
 module _ (ram store : List ℕ) (before : List Call) (start : Call) (between : List Call) (last : Call) (h : Whole (told ram store before) start between last) where
   abbrev t₀ : Track

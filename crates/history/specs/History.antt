@@ -1,4 +1,5 @@
 -- A history: calls one after the other, what each leaves and what it answers. Assumes nothing.
+use mathlib.Core.Bool.{Bool}
 use mathlib.Core.List.{List, [], _∷_}
 use Prim.Native.Nat.{ℕ, _+_}
 use Rattle.controller.specs.declared.Controller.{Controller}
@@ -6,14 +7,18 @@ use Rattle.controller.specs.State.{resetState}
 use Rattle.controller.specs.Outcome.{Outcome, Inspection}
 use Rattle.controller.specs.Calls.{readMeans, writeMeans, tickMeans}
 use Rattle.controller.specs.Inspect.{inspectMeans}
+use Rattle.desk.specs.declared.choice.Exposure.{Exposure}
+use Rattle.desk.specs.Choice.{chooseMeans}
 
--- a call: a reset; a read with the ROM lent and an address; a write with the image lent, an address and a byte; a tick of so many cycles; an inspection
+-- a call: a reset; a read with the ROM lent and an address; a write with the image lent, an address and a byte; a tick of so many cycles; an inspection;
+-- a choice at the desk of a light set, a level, dithering off or not, and an exposure
 pub data Call : Type 0 where
   reset : Call
   read : (rom : List ℕ) (address : ℕ) → Call
   write : (image : List ℕ) (address byte : ℕ) → Call
   tick : (cycles : ℕ) → Call
   inspect : Call
+  choose : (light level : ℕ) (plain : Bool) (exposure : Exposure) → Call
 
 -- what a call finds and leaves: the state, and the RAM and frame store that are lent to every call
 pub record World : Type 0 where
@@ -28,7 +33,8 @@ fresh ram store = record { state = resetState; ram = ram; store = store }
 abbrev pub leftBy : Outcome → World
 leftBy o = record { state = o .state; ram = o .ram; store = o .store }
 
--- what a call leaves: what its meaning says. A read is not lent the frame store, and an inspection only looks
+-- what a call leaves: what its meaning says. A read is not lent the frame store, and an inspection only looks; a choice is
+-- lent neither RAM nor frame store
 unfoldable pub leaves : World → Call → World
 leaves w reset = fresh (w .ram) (w .store)
 leaves w (read rom a) = record {
@@ -39,6 +45,11 @@ leaves w (read rom a) = record {
 leaves w (write image a v) = leftBy (writeMeans (w .state) (w .ram) (w .store) image a v)
 leaves w (tick n) = leftBy (tickMeans (w .state) (w .ram) (w .store) n)
 leaves w inspect = w
+leaves w (choose light level plain exposure) = record {
+  state = chooseMeans (w .state) light level plain exposure .state;
+  ram = w .ram;
+  store = w .store;
+}
 
 -- what a call answers: its refusal number (0: none), with the byte of a read and the count of a tick; a reset answers nothing
 pub data Answer : Type 0 where
@@ -57,6 +68,7 @@ answers w (read rom a) = byteOf (readMeans (w .state) rom (w .ram) a)
 answers w (write image a v) = done (writeMeans (w .state) (w .ram) (w .store) image a v .number)
 answers w (tick n) = ran (tickMeans (w .state) (w .ram) (w .store) n .number) (tickMeans (w .state) (w .ram) (w .store) n .value)
 answers w inspect = matrix (inspectMeans (w .state))
+answers w (choose light level plain exposure) = done (chooseMeans (w .state) light level plain exposure .number)
 
 -- its refusal number
 abbrev pub refusalIn : Answer → ℕ

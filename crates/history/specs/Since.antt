@@ -7,7 +7,7 @@ use lib.Dec.{eqb, leb, ltb}
 use Rattle.laws.specs.Pick.{pick}
 use Rattle.controller.specs.Timing.{readingFrom, firstRow}
 use Rattle.tiles.specs.Tiles.{place}
-use Rattle.history.specs.History.{Call, reset, read, write, tick, inspect, World}
+use Rattle.history.specs.History.{Call, reset, read, write, tick, inspect, choose, World}
 use Rattle.history.specs.Track.{Track, next, follow, told, starts, ends, lands, landsAt, byteIn}
 
 -- whether a call is a reset
@@ -17,6 +17,7 @@ isReset (read rom a) = false
 isReset (write image a v) = false
 isReset (tick n) = false
 isReset inspect = false
+isReset (choose light level plain exposure) = false
 
 -- the capture held goes on through these calls: none is a reset, and in none it reaches its end
 unfoldable pub goesOn : Track → List Call → Bool

@@ -10,7 +10,8 @@ use Rattle.laws.specs.Bits.{isSet}
 use Rattle.controller.specs.Lent.{ramAllowed, frameAllowed}
 use Rattle.controller.specs.State.{started, noRegisters}
 use Rattle.controller.specs.Bus.{onCartridge}
-use Rattle.history.specs.History.{Call, reset, read, write, tick, inspect, World}
+use Rattle.desk.specs.Choice.{beyond, registersChosen}
+use Rattle.history.specs.History.{Call, reset, read, write, tick, inspect, choose, World}
 
 -- the sizes lent; RAM writing enabled, select and registers, as the writes left them; whether a capture is held, and of that capture
 -- the image lent and the registers at its start, and the running cycles since
@@ -48,6 +49,10 @@ writeAccepted t image a =
 unfoldable pub tickAccepted : Track → Bool
 tickAccepted t = ramAllowed (t .ramSize) && frameAllowed (t .storeSize)
 
+-- a choice where the light set is at most 1 and the level at most 15
+unfoldable pub choiceAccepted : ℕ → ℕ → Bool
+choiceAccepted light level = not (beyond light level)
+
 -- Total cycles = 32,446 + (N set: 0, clear: 512) + 16 × exposure; exposure = A002 × 256 + A003, N is bit 7 of A001
 unfoldable pub cyclesOf : List ℕ → ℕ
 cyclesOf regs = 32446 + pick (isSet (getD regs 1 0) 7) 0 512 + 16 * (getD regs 2 0 * 256 + getD regs 3 0)
@@ -59,6 +64,7 @@ runsIn t (read rom a) = 0
 runsIn t (write image a v) = 0
 runsIn t (tick n) = pick (tickAccepted t && (t .held && started (t .registers))) (min n (cyclesOf (t .taken) - t .ran)) 0
 runsIn t inspect = 0
+runsIn t (choose light level plain exposure) = 0
 
 -- a capture reaches its own end in a call: with that call's cycles it has run its total
 unfoldable pub ends : Track → Call → Bool
@@ -67,6 +73,7 @@ ends t (read rom a) = false
 ends t (write image a v) = false
 ends t (tick n) = t .held && eqb (t .ran + runsIn t (tick n)) (cyclesOf (t .taken))
 ends t inspect = false
+ends t (choose light level plain exposure) = false
 
 -- a write goes to the registers: A000-BFFF with bit 4 of select set
 unfoldable pub toRegisters : Track → List ℕ → ℕ → Bool
@@ -79,6 +86,7 @@ starts t (read rom a) = false
 starts t (write image a v) = toRegisters t image a && (eqb (a % 128) 0 && (eqb (v % 2) 1 && not (t .held)))
 starts t (tick n) = false
 starts t inspect = false
+starts t (choose light level plain exposure) = false
 
 -- the image lent to a call
 unfoldable pub imageIn : Call → List ℕ
@@ -87,6 +95,7 @@ imageIn (read rom a) = []
 imageIn (write image a v) = image
 imageIn (tick n) = []
 imageIn inspect = []
+imageIn (choose light level plain exposure) = []
 
 -- the registers at a start: registers 1 to 53, and the new register 0
 unfoldable pub registersAt : Track → Call → List ℕ
@@ -95,6 +104,7 @@ registersAt t (read rom a) = []
 registersAt t (write image a v) = set (t .registers) 0 (v % 8)
 registersAt t (tick n) = []
 registersAt t inspect = []
+registersAt t (choose light level plain exposure) = []
 
 -- a write lands in the RAM: A000-BFFF with bit 4 of select clear, register 0 has bit 0 clear, RAM writing is enabled
 unfoldable pub lands : Track → Call → Bool
@@ -104,6 +114,7 @@ lands t (write image a v) =
     writeAccepted t image a && (not (ltb a 0x8000) && (not (isSet (t .select) 4) && (not (started (t .registers)) && t .enabled)))
 lands t (tick n) = false
 lands t inspect = false
+lands t (choose light level plain exposure) = false
 
 -- where it lands: RAM bank select modulo 16, bank numbers modulo the banks lent
 unfoldable pub landsAt : Track → Call → ℕ
@@ -112,6 +123,7 @@ landsAt t (read rom a) = 0
 landsAt t (write image a v) = t .select % 16 % (t .ramSize / 8192) * 8192 + a % 8192
 landsAt t (tick n) = 0
 landsAt t inspect = 0
+landsAt t (choose light level plain exposure) = 0
 
 -- and which byte
 unfoldable pub byteIn : Call → ℕ
@@ -120,6 +132,7 @@ byteIn (read rom a) = 0
 byteIn (write image a v) = v
 byteIn (tick n) = 0
 byteIn inspect = 0
+byteIn (choose light level plain exposure) = 0
 
 -- what is told, with one thing changed
 unfoldable pub enabling : Track → Bool → Track
@@ -218,13 +231,15 @@ registered t image i v =
 unfoldable pub written : Track → List ℕ → ℕ → ℕ → Track
 written t image a v = pick (ltb a 0x8000) (controlled t a v) (pick (isSet (t .select) 4) (registered t image (a % 128) v) t)
 
--- what is told after one call more; a refused call changes nothing
+-- what is told after one call more; a refused call changes nothing. A choice stores the registers that it writes, and no more
 unfoldable pub next : Track → Call → Track
 next t reset = atReset (t .ramSize) (t .storeSize)
 next t (read rom a) = t
 next t (write image a v) = pick (writeAccepted t image a) (written t image a v) t
 next t (tick n) = pick (ends t (tick n)) (ending t) (running t (t .ran + runsIn t (tick n)))
 next t inspect = t
+next t (choose light level plain exposure) =
+    pick (choiceAccepted light level) (storing t (registersChosen (t .registers) light level plain exposure)) t
 
 -- and after a list of calls, the first call first
 unfoldable pub follow : Track → List Call → Track
