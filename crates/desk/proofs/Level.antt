@@ -1,22 +1,20 @@
 -- What a choice leaves: a state that can exist, with its 54 registers, in which no element is reversed. Assumes nothing.
-use mathlib.Core.Path.{_≡_, refl, sym, ap, _∙_}
-use mathlib.Core.Bool.{Bool, true, false, _||_}
+use mathlib.Core.Path.{_≡_, refl, sym, _∙_}
+use mathlib.Core.Bool.{Bool, false}
 use mathlib.Core.List.{List}
-use Prim.Native.Nat.{ℕ, zero, suc, _+_, _*_, _/_, _%_, _<_, _≤_}
+use Prim.Native.Nat.{ℕ, zero, suc, _+_, _*_, _/_, _%_, _<_}
 use native.Mathlib.Omega.{arith}
-use lib.Dec.{ltb}
 use lib.ListN.{length, getD, set, length-set}
 use lib.Seq.{getD-set-other}
 use borrow.Author.Tests.{le-ltb}
 use Rattle.controller.specs.declared.Controller.{Controller}
-use Rattle.controller.specs.State.{started, leftOver, wrongCapture, cantExist}
-use Rattle.controller.specs.Outcome.{Inspection}
+use Rattle.controller.specs.State.{leftOver, wrongCapture, cantExist}
 use Rattle.controller.specs.Table.{lowest}
 use Rattle.matrix.specs.Matrix.{reversed, firstIn}
-use Rattle.controller.specs.Inspect.{named, inspectRows, inspectMeans}
+use Rattle.controller.specs.Inspect.{inspectRows, inspectMeans}
 use Rattle.controller.proofs.Exists.{exists-parts, exists-whole}
 use Rattle.desk.specs.declared.choice.Exposure.{Exposure}
-use Rattle.desk.specs.Choice.{stepsOf, valueOf, stored, timed, registersChosen, withRegisters, chooseRows, chooseMeans}
+use Rattle.desk.specs.Choice.{stepsOf, valueOf, timed, registersChosen, withRegisters, chooseRows, chooseMeans}
 use Rattle.desk.proofs.Registers.{stored-length, stored-before, stored-at}
 use Rattle.desk.proofs.Choices.{choose-refuses, choose-fits}
 use Rattle.desk.proofs.Rising.{value-rises}

@@ -1,5 +1,5 @@
 -- Every three values of the table rise or stay level: one test of the whole table, and what it tells of each three. Assumes nothing.
-use mathlib.Core.Path.{_≡_, refl, ap, _∙_}
+use mathlib.Core.Path.{_≡_, refl}
 use mathlib.Core.Bool.{Bool, true, false, _&&_, false≢true}
 use mathlib.Core.List.{List, [], _∷_}
 use Prim.Native.Nat.{ℕ, zero, suc, _+_, _*_, _/_, _%_, _≤_}
@@ -9,7 +9,7 @@ use lib.ListN.{getD}
 use borrow.Author.Tests.{leb-true}
 use Rattle.laws.proofs.Bools.{both-left, both-right}
 use Rattle.desk.specs.Levels.{levels, rising}
-use Rattle.desk.specs.Choice.{matrixFrom, shown, valueOf}
+use Rattle.desk.specs.Choice.{matrixFrom, valueOf}
 
 -- the test, computed
 pub levels-rise : rising levels ≡ true

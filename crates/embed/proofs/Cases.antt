@@ -36,9 +36,12 @@ use Rattle.lines.proofs.Recorded.{record-most}
 use Rattle.plates.specs.declared.grey.Output.{Output}
 use Rattle.plates.specs.Grey.{exported, outputNumber, outputValue, exportMeans}
 use Rattle.photos.specs.Photo.{imported, importMeans}
+use Rattle.desk.specs.declared.choice.Exposure.{Exposure}
+use Rattle.desk.specs.Choice.{chooseMeans}
+use Rattle.desk.proofs.Choices.{choose-refuses}
 use Rattle.embed.specs.Layout.{encoded, isRecord, decoded}
 use Rattle.embed.specs.Packed.{packed}
-use Rattle.embed.specs.Exports.{called, asBytes, noRecord, unread, resetBytes, readBytes, writeBytes, tickBytes, inspected, inspectBytes, filled, asDrawn, pictureBytes, asLine, recordBytes, asWritten, exportBytes, asRead, importBytes}
+use Rattle.embed.specs.Exports.{called, asBytes, noRecord, unread, resetBytes, readBytes, writeBytes, tickBytes, inspected, inspectBytes, filled, asDrawn, pictureBytes, asLine, recordBytes, asWritten, exportBytes, asRead, importBytes, plainIn, exposureIn, chooseBytes}
 use Rattle.embed.proofs.Inverse.{encode-decode}
 
 -- an outcome with a number hands back the state given and changes no byte lent
@@ -152,6 +155,34 @@ module _ (s ram store : List ℕ) (n : ℕ) where
         (λ i. called (q i) s ram′ store)
         ∙ unchanged s ram store bytes h (tick-refuses (decoded s) ram store n) why (r .state) ram′ store (tick-is (ticks.Refused why) f)
         ∙ sym (tick-done h)
+
+-- ---- choice
+
+module _ (s : List ℕ) (light level plain exposure : ℕ) where
+  abbrev choice : Controller → Outcome
+  choice c = chooseMeans c light level (plainIn plain) (exposureIn exposure)
+
+  pub choose-unread : isRecord s ≡ false → chooseBytes s light level plain exposure ≡ unread s [] []
+  unfolding chooseBytes
+  choose-unread h = simp h
+
+  pub choose-done : isRecord s ≡ true → chooseBytes s light level plain exposure ≡ asBytes (choice (decoded s))
+  unfolding chooseBytes
+  choose-done h = simp h
+
+  module _ (h : isRecord s ≡ true) (d : Controller) (x : Exposure) (r : WriteDone) (e : d ≡ decoded s) (named : x ≡ exposureIn exposure) (means : writeOutcome r [] [] ≡ chooseMeans d light level (plainIn plain) x) where
+    choose-is : (y : WriteAnswer) → r .answer ≡ y → outcome (writeNumber y) 0 (r .state) [] [] ≡ choice (decoded s)
+    choose-is y f =
+        ap (λ z. outcome (writeNumber z) 0 (r .state) [] []) (sym f) ∙ means ∙ ap (λ z. chooseMeans d light level (plainIn plain) z) named ∙ ap choice e
+
+    pub choose-chose : r .answer ≡ writes.Done → (p : ℕ) (t : List ℕ) → p ≡ packed 0 0 → t ≡ encoded (r .state) → called p t [] [] ≡ chooseBytes s light level plain exposure
+    choose-chose f p t q g = (λ i. called (q i) (g i) [] []) ∙ ap asBytes (choose-is writes.Done f) ∙ sym (choose-done h)
+
+    pub choose-refusal : Bytes s → (why : Refusal) → r .answer ≡ writes.Refused why → (p : ℕ) → p ≡ packed (numberOf why) 0 → called p s [] [] ≡ chooseBytes s light level plain exposure
+    choose-refusal bytes why f p q =
+        (λ i. called (q i) s [] [])
+        ∙ unchanged s [] [] bytes h (choose-refuses (decoded s) light level (plainIn plain) (exposureIn exposure)) why (r .state) [] [] (choose-is (writes.Refused why) f)
+        ∙ sym (choose-done h)
 
 -- ---- inspection
 

@@ -1,7 +1,7 @@
 -- What a call leaves as bytes is a record and reads back as what it left; so a tick that is broken off and picked up from the bytes is
 -- the tick at once. Assumes nothing.
 use mathlib.Core.Path.{_≡_, refl, ap, _∙_}
-use mathlib.Core.Bool.{true, false, not, _||_}
+use mathlib.Core.Bool.{Bool, true, false, not, _||_}
 use mathlib.Core.List.{List, [], _∷_}
 use Prim.Native.Nat.{ℕ, zero, suc, _+_, _*_, _%_, _<_}
 use native.Mathlib.Omega.{arith}
@@ -24,11 +24,15 @@ use Rattle.controller.proofs.Exists.{neither-left, exists-parts, before-total}
 use Rattle.controller.proofs.Refusals.{write-refuses, tick-refuses, tick-fits}
 use Rattle.laws.proofs.Bools.{either}
 use Rattle.controller.proofs.TickSum.{Kept, ticks-keep, again, after, tick-sum}
+use Rattle.desk.specs.declared.choice.Exposure.{Exposure}
+use Rattle.desk.specs.Choice.{withRegisters, chooseRows, chooseMeans}
+use Rattle.desk.proofs.Choices.{choose-refuses}
+use Rattle.desk.proofs.Level.{chosen-length}
 use Rattle.embed.specs.Layout.{encoded, isRecord, fourAt, decoded}
 use Rattle.embed.specs.Packed.{packed}
-use Rattle.embed.specs.Exports.{Called, asBytes, writeBytes, tickBytes}
+use Rattle.embed.specs.Exports.{Called, asBytes, writeBytes, tickBytes, plainIn, exposureIn, chooseBytes}
 use Rattle.embed.proofs.Inverse.{Whole, record-parts, encoded-record, decode-encode}
-use Rattle.embed.proofs.Cases.{write-done, tick-done}
+use Rattle.embed.proofs.Cases.{write-done, tick-done, choose-done}
 
 -- ---- what bytes are read as
 
@@ -185,6 +189,17 @@ module _ (s ram store : List ℕ) (bytes : Bytes s) (h : isRecord s ≡ true) wh
 
   pub tick-left : (n : ℕ) → Reads (tickBytes s ram store n .state) (tickMeans (decoded s) ram store n .state)
   tick-left n = rw (tick-done s ram store n h) (reads _ (tick-whole n))
+
+  choose-whole : (light level : ℕ) (plain : Bool) (exposure : Exposure) → Whole (chooseMeans (decoded s) light level plain exposure .state)
+  unfolding withRegisters
+  choose-whole light level plain exposure = by-number (lowest (chooseRows (decoded s) light level)) refl
+    where
+      by-number : (k : ℕ) → lowest (chooseRows (decoded s) light level) ≡ k → Whole (chooseMeans (decoded s) light level plain exposure .state)
+      by-number zero e = rw (choose-refuses (decoded s) light level plain exposure .does e) (same-sizes (decoded s) _ whole (chosen-length light level plain exposure (decoded s .registers)) refl refl)
+      by-number (suc k) e = rw (choose-refuses (decoded s) light level plain exposure .kept k e) whole
+
+  pub choose-left : (light level plain exposure : ℕ) → Reads (chooseBytes s light level plain exposure .state) (chooseMeans (decoded s) light level (plainIn plain) (exposureIn exposure) .state)
+  choose-left light level plain exposure = rw (choose-done s light level plain exposure h) (reads _ (choose-whole light level (plainIn plain) (exposureIn exposure)))
 
   pub tick-resumed : (a b : ℕ) → Resumed (tickBytes s ram store (a + b)) (tickBytes s ram store a) (tickBytes (tickBytes s ram store a .state) (tickBytes s ram store a .ram) (tickBytes s ram store a .store) b)
   tick-resumed a b =

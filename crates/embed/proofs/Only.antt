@@ -24,10 +24,12 @@ use Rattle.lines.specs.Record.{recordMeans}
 use Rattle.lines.proofs.Recorded.{record-most}
 use Rattle.plates.specs.Grey.{Exported, exportRows, exportMeans}
 use Rattle.photos.specs.Photo.{importMeans}
+use Rattle.desk.specs.Choice.{chooseMeans}
+use Rattle.desk.proofs.Choices.{choose-refuses}
 use Rattle.embed.specs.Layout.{isRecord, decoded}
 use Rattle.embed.specs.Packed.{packed}
-use Rattle.embed.specs.Exports.{readBytes, writeBytes, tickBytes, elementValue, inspectBytes, recordBytes, exportBytes, importBytes}
-use Rattle.embed.proofs.Cases.{read-done, write-done, tick-done, inspect-done}
+use Rattle.embed.specs.Exports.{readBytes, writeBytes, tickBytes, elementValue, inspectBytes, recordBytes, exportBytes, importBytes, plainIn, exposureIn, chooseBytes}
+use Rattle.embed.proofs.Cases.{read-done, write-done, tick-done, inspect-done, choose-done}
 
 -- the number stands above 2^32, and the value below
 pub record Says (answer n v : ℕ) : Type 0 where
@@ -98,6 +100,12 @@ pub tick-says : (s ram store : List ℕ) (n : ℕ) → n < 4294967296 → isReco
 tick-says s ram store n l h =
     rw (tick-done s ram store n h)
     (packed-says _ _ (small (tick-refuses (decoded s) ram store n) (omega (arith, ticks-most store n (from (decoded s) ram)))))
+
+pub choose-says : (s : List ℕ) (light level plain exposure : ℕ) → isRecord s ≡ true
+    → Says (chooseBytes s light level plain exposure .answer) (chooseMeans (decoded s) light level (plainIn plain) (exposureIn exposure) .number) (chooseMeans (decoded s) light level (plainIn plain) (exposureIn exposure) .value)
+choose-says s light level plain exposure h =
+    rw (choose-done s light level plain exposure h)
+    (packed-says _ _ (small (choose-refuses (decoded s) light level (plainIn plain) (exposureIn exposure)) (omega arith)))
 
 pub inspect-says : (s : List ℕ) → isRecord s ≡ true → Says (inspectBytes s) (inspectMeans (decoded s) .number) (elementValue (inspectMeans (decoded s)))
 inspect-says s h = rw (inspect-done s h) (packed-says _ _ (inspect-small (decoded s)))

@@ -1,7 +1,8 @@
 -- What each exported function answers and leaves: the controller's meaning, with the state as bytes. Assumes nothing.
+use mathlib.Core.Bool.{Bool, not}
 use mathlib.Core.List.{List, []}
 use Prim.Native.Nat.{ℕ, _+_, _*_}
-use lib.Dec.{eqb}
+use lib.Dec.{eqb, ltb}
 use lib.ListN.{length}
 use Rattle.laws.specs.Pick.{pick}
 use Rattle.controller.specs.declared.Refusal.the-variants.{State}
@@ -14,6 +15,9 @@ use Rattle.lines.specs.declared.line.Frame.{Frame}
 use Rattle.lines.specs.Record.{Recording, recordMeans}
 use Rattle.plates.specs.Grey.{Exported, exportMeans}
 use Rattle.photos.specs.Photo.{Imported, importMeans}
+use Rattle.desk.specs.declared.choice.Exposure.{Exposure}
+use Rattle.desk.specs.declared.choice.Exposure.the-variants.{Named, Unnamed}
+use Rattle.desk.specs.Choice.{chooseMeans}
 use Rattle.embed.specs.Layout.{encoded, isRecord, decoded}
 use Rattle.embed.specs.Packed.{packed}
 
@@ -52,6 +56,19 @@ writeBytes s ram store image a v =
 
 unfoldable pub tickBytes : List ℕ → List ℕ → List ℕ → ℕ → Called
 tickBytes s ram store n = pick (isRecord s) (asBytes (tickMeans (decoded s) ram store n)) (unread s ram store)
+
+-- `plain` 0 with dithering, any other without
+abbrev pub plainIn : ℕ → Bool
+plainIn plain = not (eqb plain 0)
+
+-- an exposure above FFFF is unnamed
+unfoldable pub exposureIn : ℕ → Exposure
+exposureIn n = pick (ltb 0xFFFF n) Unnamed (Named n)
+
+-- a choice is lent the state alone
+unfoldable pub chooseBytes : List ℕ → ℕ → ℕ → ℕ → ℕ → Called
+chooseBytes s light level plain exposure =
+    pick (isRecord s) (asBytes (chooseMeans (decoded s) light level (plainIn plain) (exposureIn exposure))) (unread s [] [])
 
 -- an element of the matrix as a value: 0 where there is none, else 0x100 + 16 × row + column
 abbrev pub elementValue : Inspection → ℕ

@@ -12,6 +12,8 @@ use controller::ReadAnswer;
 use controller::Refusal;
 use controller::TickAnswer;
 use controller::WriteAnswer;
+use desk::choice::Exposure;
+use desk::choice::choose;
 use layout::STATE_LEN;
 use layout::decode;
 use layout::encode;
@@ -22,7 +24,7 @@ use plates::grey::Output;
 use plates::grey::export;
 ghost use mathlib.Core.Path.{_≡_};
 ghost use mathlib.Core.List.{[]};
-ghost use Rattle.embed.specs.Exports.{called, resetBytes, readBytes, writeBytes, tickBytes, inspectBytes, filled, pictureBytes, exportBytes, importBytes};
+ghost use Rattle.embed.specs.Exports.{called, resetBytes, readBytes, writeBytes, tickBytes, inspectBytes, filled, pictureBytes, exportBytes, importBytes, exposureIn, chooseBytes};
 
 // Writes the reset record.
 #[no_mangle]
@@ -96,6 +98,48 @@ pub extern "C" fn gulxinett_tick(state: &mut [u8], ram: &mut [u8], store: &[u8],
             pack(0, ran.0)
         }
         TickAnswer::Refused(why) => refused(why),
+    }
+}
+
+// The exposure that a number names; above FFFF none.
+fn exposure_in(n: u32) -> Exposure
+    ensures { λ r. ⌜ r ≡ exposureIn n ⌝ }
+{
+    if 0xFFFF < n {
+        return Exposure::Unnamed;
+    }
+    Exposure::Named(n as u16)
+}
+
+// Chooses the matrix of a light set and a level, with its dithering (plain 0) or without, and an exposure.
+#[no_mangle]
+pub extern "C" fn gulxinett_choose(
+    state: &mut [u8],
+    light: u8,
+    level: u8,
+    plain: u8,
+    exposure: u32,
+) -> u64
+    ensures { λ r. ⌜ called r (now (state .exit)) [] [] ≡ chooseBytes (now (state .entry)) light level plain exposure ⌝ }
+{
+    if !is_record(state) {
+        return refused(Refusal::State);
+    }
+    let done = choose(
+        decode(state),
+        light,
+        level,
+        plain != 0,
+        exposure_in(exposure),
+    );
+    let answer = done.answer;
+    match answer {
+        WriteAnswer::Done => {
+            let next = done.state;
+            encode(next, state);
+            pack(0, 0)
+        }
+        WriteAnswer::Refused(why) => refused(why),
     }
 }
 

@@ -10,3 +10,4 @@ pub mod OwnFrame
 pub mod HalfPicture
 pub mod Picture
 pub mod Worked
+pub mod Chosen

@@ -2,3 +2,4 @@
 pub mod History
 pub mod Track
 pub mod Since
+pub mod Writes

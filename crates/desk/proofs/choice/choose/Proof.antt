@@ -1,5 +1,5 @@
 -- `desk::choice::choose` meets its contract: it is judged, and then done. Assumes nothing.
-use mathlib.Core.Path.{_≡_, ap, _∙_}
+use mathlib.Core.Path.{ap, _∙_}
 use mathlib.Core.List.{List, []}
 use Prim.Native.Nat.{ℕ}
 use Rattle.controller.specs.Outcome.{outcome}

@@ -1,13 +1,12 @@
 -- `desk::choice::put_matrix` meets its contract: the invariant: the values stored so far. Assumes nothing.
-use mathlib.Core.Path.{_≡_, refl, sym, ap, _∙_}
+use mathlib.Core.Path.{_≡_, ap, _∙_}
 use mathlib.Core.Bool.{Bool}
 use mathlib.Core.List.{List}
 use Prim.Native.Nat.{ℕ, _+_, _-_, _≤_}
 use native.Mathlib.Omega.{arith}
-use lib.ListN.{length, getD, set}
+use lib.ListN.{getD}
 use Rattle.desk.specs.Choice.{shown, stored}
 use Rattle.desk.proofs.Registers.{stored-none, stored-more}
-use borrow.Author.Needs.{needs}
 use Rattle.desk.proofs.choice.put_matrix.Statement.{statement}
 use Rattle.desk.proofs.choice.put_matrix.Tie as tie
 
