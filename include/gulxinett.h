@@ -24,6 +24,7 @@
  *   6  an image row is above 7F or not 128 bytes, so no script line says it
  *   7  a buffer lent is too short
  *   8  a file is not one that can be read
+ *   9  the light set of a choice is above 1, or its level above 15
  *
  * The memory lent to one call must not overlap, and is not kept after the call.
  */
@@ -83,6 +84,16 @@ uint64_t gulxinett_tick(uint8_t *state, size_t state_len,
                         uint8_t *ram, size_t ram_len,
                         const uint8_t *store, size_t store_len,
                         uint32_t cycles);
+
+/* An exposure that names none: so is any number above FFFF. */
+#define GULXINETT_UNNAMED 0x10000
+
+/* Chooses the matrix of a light set (0 high light, 1 low light) and a level (0 the lowest contrast,
+ * 7 the default, 15 the highest), with its dithering (plain 0) or without (any other), and an
+ * exposure; unnamed it is 0300h. Writes registers 2, 3 and 6 to 53 of the state and nothing else:
+ * a capture held goes on with the registers of its start. Refused as 1, then as 9. Value 0. */
+uint64_t gulxinett_choose(uint8_t *state, size_t state_len,
+                          uint8_t light, uint8_t level, uint8_t plain, uint32_t exposure);
 
 /* Looks for the first element of the current matrix, by rows and then columns, whose three
  * values don't rise or stay level. Value: 0 if there is none, else 0x100 + 16 * row + column. */
