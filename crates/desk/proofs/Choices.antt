@@ -16,6 +16,7 @@ use Rattle.controller.proofs.Exists.{neither-left, neither-right}
 use Rattle.controller.proofs.Only.{only-write}
 use Rattle.controller.proofs.Refusals.{Refuses, inOutcome, refuses, risingFrom, first-fails}
 use Rattle.desk.specs.declared.choice.Exposure.{Exposure}
+use Rattle.desk.specs.Stored.{storedMeans, typeSlide, pinnedBeetle, herbariumSheet}
 use Rattle.desk.specs.Choice.{beyond, chooseRows, chosen, chooseMeans}
 
 module _ (c : Controller) (light level : ℕ) where
@@ -54,3 +55,8 @@ module _ (c : Controller) (light level : ℕ) where
 -- one answer and one state
 pub only-choose : (r s : WriteDone) → writeOutcome r [] [] ≡ writeOutcome s [] [] → r ≡ s
 only-choose r s e = only-write r s [] [] [] [] e .0
+
+-- the choices known by name are ones of the table: a state that can exist is never refused one
+pub named-fit : (c : Controller) → cantExist c ≡ false → (storedMeans c typeSlide .number ≡ 0) × (storedMeans c pinnedBeetle .number ≡ 0) × (storedMeans c herbariumSheet .number ≡ 0)
+unfolding chooseMeans chooseRows lowest
+named-fit c e = (rw e, rw e, rw e)
