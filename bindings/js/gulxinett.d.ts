@@ -23,7 +23,8 @@ export const PLATE_BYTES: 14351;
  *
  * 1 the state record can't exist, 2 the ROM length is not allowed, 3 the RAM length is not allowed, 4 the image
  * or the frame store is not 16,384 bytes, 5 the address is outside 0000-7FFF and A000-BFFF, 6 a script line or
- * image row is malformed, 7 the room lent for what is written is too short.
+ * image row is malformed, 7 the room lent for what is written is too short, 8 the file is not one
+ * that can be read.
  */
 export class Refusal extends Error {
   constructor(number: number);
@@ -78,6 +79,8 @@ export interface Cartridge {
   inspect(): Element | null;
   /** Lends an image of 16,384 bytes to the writes that follow; until then it is all 00. */
   lend(image: Bytes): void;
+  /** Lends the image of a colour photograph, a Netpbm P6 file of 128 by 128 pixels with largest value 255, each (2R + 5G + B) / 8. */
+  lendPhoto(file: Bytes): void;
   /**
    * Switches the recorder on: from here on every call, refused ones too, is a line of a script that the program
    * `bus` plays, and an image lent is its rows. Switched on again, it goes on.

@@ -34,6 +34,7 @@ const SENTENCES = {
   5: "the address is outside 0000-7FFF and A000-BFFF",
   6: "the script line or image row is malformed",
   7: "the room lent for what is written is too short",
+  8: "the file is not one that can be read",
 };
 
 /** A call that was refused, by its number; it changed nothing. */
@@ -229,6 +230,17 @@ function bound(exports) {
       this.#recorder?.lend(kept.bytes, bytes);
       kept.bytes.set(bytes);
       this.#imageUntouched = false;
+    }
+
+    /** Lends the image of a colour photograph, a Netpbm P6 file of 128 by 128 pixels. */
+    lendPhoto(file) {
+      this.#open();
+      const named = { file: bytesOf("the photograph", file), image: new Uint8Array(FRAME_BYTES) };
+      const image = withCopies(named, ({ file, image }) => {
+        valueOf(exports.gulxinett_import_photo(...lent(file, image)));
+        return image.bytes.slice();
+      });
+      this.lend(image);
     }
 
     /** Switches the recorder on: every call from here on is a line of a script. Switched on again, it goes on. */

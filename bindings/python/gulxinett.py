@@ -48,6 +48,7 @@ _SENTENCES = {
     5: "the address is outside 0000-7FFF and A000-BFFF",
     6: "the script line or image row is malformed",
     7: "the room lent for what is written is too short",
+    8: "the file is not one that can be read",
 }
 
 # What each function is given: lent memory is a place and a length, a bare place has a length that is settled.
@@ -66,6 +67,7 @@ _FUNCTIONS = {
     "record_tick": (ctypes.c_uint32,) + _LENT,
     "record_row": (ctypes.c_uint8,) + _LENT * 2,
     "export": _LENT * 2,
+    "import_photo": _LENT * 2,
 }
 
 
@@ -303,6 +305,13 @@ class Cartridge:
             self._recorder.lend(self._image, image)
         self._image = image
         self._image_untouched = False
+
+    def lend_photo(self, file):
+        """Lends the image of a colour photograph, a Netpbm P6 file of 128 by 128 pixels with largest value 255."""
+        self._open()
+        file, image = _memory("the photograph", file), (ctypes.c_ubyte * FRAME_BYTES)()
+        _call("import_photo", *_lent(file, image))
+        self.lend(image)
 
     def record(self):
         """Switches the recorder on: from here on every call, refused ones too, is a line of a script that the

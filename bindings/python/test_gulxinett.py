@@ -44,6 +44,13 @@ def row_lines(image, rows):
     return b"".join(b"04%02X%s\n" % (row, image[128 * row : 128 * row + 128].hex().upper().encode()) for row in rows)
 
 
+def photograph(header):
+    """A colour photograph under a header, and its image, worked out here."""
+    pixels = bytes((i * 7 + (i >> 8)) & 255 for i in range(3 * FRAME_BYTES))
+    image = bytes((2 * r + 5 * g + b) // 8 for r, g, b in zip(pixels[::3], pixels[1::3], pixels[2::3]))
+    return header + pixels, image
+
+
 class Recording(unittest.TestCase):
     def test_every_call_made_and_every_row_that_changed(self):
         cartridge = Cartridge()
@@ -70,6 +77,30 @@ class Recording(unittest.TestCase):
         image[5 * 128 + 127], image[127 * 128] = 9, 0xAB
         cartridge.lend(image)
         self.assertEqual(cartridge.recording(), due + row_lines(image, (5, 127)))
+
+    def test_photographs(self):
+        cartridge = Cartridge()
+        cartridge.record()
+        file, image = photograph(b"P6\n# a scan\n128 128\n255\n")
+        cartridge.lend_photo(file)
+        self.assertEqual(cartridge.picture(registers=TAKEN), picture(image, TAKEN))
+        self.assertNotEqual(picture(image, TAKEN), picture(frame(1), TAKEN))
+        due = row_lines(image, range(128))
+        self.assertEqual(cartridge.recording(), due)
+        grey = image[-1] ^ 255
+        cartridge.lend_photo(bytearray(file[:-3] + bytes([grey] * 3)))
+        due += row_lines(image[:-1] + bytes([grey]), (127,))
+        self.assertEqual(cartridge.recording(), due)
+        before = whole(cartridge)
+        none = [photograph(header)[0] for header in (b"", b"P6#\n128 128 255\n", b"P6\n0128 128\n255\n", b"P5\n128 128\n255\n")]
+        for bad in none + [b"", file[:-1], file + b"\0", bytes(10_000_000)]:
+            with self.assertRaisesRegex(Refusal, "the file is not one that can be read") as refused:
+                cartridge.lend_photo(bad)
+            self.assertEqual(refused.exception.number, 8)
+        with self.assertRaisesRegex(TypeError, "the photograph must be bytes, not str"):
+            cartridge.lend_photo("P6")
+        self.assertEqual(whole(cartridge), before)
+        self.assertEqual(cartridge.recording(), due)
 
     def test_an_image_that_a_script_does_not_begin_with_is_told_before_a_write(self):
         restored, lent = Cartridge.restore(Cartridge().save()), Cartridge()
@@ -228,7 +259,7 @@ class BadInput(unittest.TestCase):
         cartridge.close()
         cartridge.close()
         uses = {
-            "reset": (), "read": (0,), "write": (0xA000, 0), "tick": (1,), "inspect": (), "lend": (frame(1),),
+            "reset": (), "read": (0,), "write": (0xA000, 0), "tick": (1,), "inspect": (), "lend": (frame(1),), "lend_photo": (b"",),
             "picture": (), "area": (), "plate": (), "save": (), "record": (), "recording": (),
         }
         for name, words in uses.items():

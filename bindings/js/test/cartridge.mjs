@@ -141,6 +141,40 @@ function plates() {
   say("plates as grey images: before a capture, half way and whole");
 }
 
+/** A colour photograph under a header, and its image, worked out here. */
+function photograph(header, number) {
+  const pixels = Uint8Array.from({ length: 3 * FRAME_BYTES }, (_, i) => (i * (5 + 2 * number) + (i >> 8)) & 255);
+  const image = Uint8Array.from({ length: FRAME_BYTES }, (_, i) => (2 * pixels[3 * i] + 5 * pixels[3 * i + 1] + pixels[3 * i + 2]) >> 3);
+  return [Buffer.concat([Buffer.from(header, "latin1"), pixels]), image];
+}
+
+/** Photographs lent: their images, their rows in a recording, and what are none. */
+function photographs() {
+  const cartridge = new Cartridge();
+  cartridge.record();
+  const [file, image] = photograph("P6\n# a scan\n128 128\n255\n", 1);
+  cartridge.lendPhoto(file);
+  assert.deepEqual(cartridge.picture(undefined, registers), picture(image, registers));
+  assert.notDeepEqual(picture(image, registers), picture(frame(1), registers));
+  let due = rowLines(image, everyRow);
+  const recorded = () => Buffer.from(cartridge.recording()).toString();
+  assert.equal(recorded(), due);
+  file.fill(file[file.length - 1] ^ 255, file.length - 3);
+  cartridge.lendPhoto(file);
+  const other = image.slice();
+  other[FRAME_BYTES - 1] = file[file.length - 1];
+  assert.equal(recorded(), (due += rowLines(other, [127])));
+  const before = whole(cartridge);
+  const none = ["", "P6#\n128 128 255\n", "P6\n0128 128\n255\n", "P5\n128 128\n255\n", "P6\n128 128\n255\r\n"];
+  for (const header of none) refused(8, () => cartridge.lendPhoto(photograph(header, 1)[0]));
+  for (const length of [0, 1, 49_166, 10_000_000]) refused(8, () => cartridge.lendPhoto(Buffer.concat([file, new Uint8Array(length)]).subarray(0, length)));
+  throws(TypeError, "the photograph must be", () => cartridge.lendPhoto("P6"));
+  assert.deepEqual(whole(cartridge), before);
+  assert.equal(recorded(), due);
+  cartridge.close();
+  say("photographs lent, recorded as the rows that changed; 10 that are none turned away");
+}
+
 /** The lines of some rows of an image. */
 const rowLines = (image, rows) =>
   rows.map((row) => `${Buffer.from([4, row, ...image.subarray(128 * row, 128 * row + 128)]).toString("hex").toUpperCase()}\n`).join("");
@@ -364,7 +398,7 @@ function closed() {
   const before = [whole(other), whole(next)];
   cartridge.close();
   const uses = {
-    reset: [], read: [0], write: [0xa000, 0], tick: [1], inspect: [], lend: [frame(1)], picture: [], area: [], plate: [], save: [],
+    reset: [], read: [0], write: [0xa000, 0], tick: [1], inspect: [], lend: [frame(1)], lendPhoto: [frame(1)], picture: [], area: [], plate: [], save: [],
     record: [], recording: [],
   };
   for (const [name, words] of Object.entries(uses)) throws(Error, "the cartridge is closed", () => cartridge[name](...words));
@@ -379,6 +413,7 @@ types();
 await loading();
 calls();
 plates();
+photographs();
 recorder();
 sideBySide();
 memory();

@@ -18,7 +18,7 @@ impl Answer {
     pub fn result(self) -> Result<u32, Refusal> {
         match (self.0 >> 32) as u32 {
             0 => Ok(self.0 as u32),
-            number => Err(Refusal::from_number(number).expect("a refusal is 1 to 7")),
+            number => Err(Refusal::from_number(number).expect("a refusal is 1 to 8")),
         }
     }
 }
@@ -155,4 +155,13 @@ pub fn record_row(row: u8, bytes: &[u8], out: &mut [u8]) -> Answer {
 pub fn export(ram: &[u8], out: &mut [u8]) -> Answer {
     // SAFETY: each pointer and length are those of one slice, and the mutable one is apart.
     Answer(unsafe { ffi::gulxinett_export(ram.as_ptr(), ram.len(), out.as_mut_ptr(), out.len()) })
+}
+
+/// Reads a colour photograph, a Netpbm P6 file of 128 by 128 pixels, into an image; the value is 0. A file
+/// that is none is refused as [`Refusal::File`].
+pub fn import_photo(file: &[u8], image: &mut [u8]) -> Answer {
+    // SAFETY: each pointer and length are those of one slice, and the mutable one is apart.
+    Answer(unsafe {
+        ffi::gulxinett_import_photo(file.as_ptr(), file.len(), image.as_mut_ptr(), image.len())
+    })
 }

@@ -136,6 +136,14 @@ impl Cartridge {
         Ok(())
     }
 
+    /// Lends the image of a colour photograph, a Netpbm P6 file of 128 by 128 pixels with largest value
+    /// 255, each (2R + 5G + B) / 8.
+    pub fn lend_photo(&mut self, file: &[u8]) -> Result<(), Refusal> {
+        let mut image = [0; FRAME_BYTES];
+        bytes::import_photo(file, &mut image).result()?;
+        self.lend(&image)
+    }
+
     /// Switches the recorder on: from here on every call, refused ones too, is a line of a script
     /// that the program `bus` plays. Switched on again, it goes on.
     pub fn record(&mut self) {

@@ -62,4 +62,11 @@ extern "C" {
     ) -> u64;
 
     pub fn gulxinett_export(ram: *const u8, ram_len: usize, out: *mut u8, out_len: usize) -> u64;
+
+    pub fn gulxinett_import_photo(
+        file: *const u8,
+        file_len: usize,
+        image: *mut u8,
+        image_len: usize,
+    ) -> u64;
 }

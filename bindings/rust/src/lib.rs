@@ -59,15 +59,17 @@ pub enum Refusal {
     Line = 6,
     /// The room lent for what is written is too short.
     Room = 7,
+    /// The file is not one that can be read.
+    File = 8,
 }
 
 impl Refusal {
-    /// The interface's number, 1 to 7.
+    /// The interface's number, 1 to 8.
     pub const fn number(self) -> u8 {
         self as u8
     }
 
-    /// The refusal of a number; none outside 1 to 7.
+    /// The refusal of a number; none outside 1 to 8.
     pub const fn from_number(number: u32) -> Option<Refusal> {
         Some(match number {
             1 => Refusal::State,
@@ -77,6 +79,7 @@ impl Refusal {
             5 => Refusal::Address,
             6 => Refusal::Line,
             7 => Refusal::Room,
+            8 => Refusal::File,
             _ => return None,
         })
     }
@@ -92,6 +95,7 @@ impl std::fmt::Display for Refusal {
             Refusal::Address => "the address is outside 0000-7FFF and A000-BFFF",
             Refusal::Line => "the script line or image row is malformed",
             Refusal::Room => "the room lent for what is written is too short",
+            Refusal::File => "the file is not one that can be read",
         })
     }
 }

@@ -1,6 +1,6 @@
 //! The recorder: every call made, refused ones too, and every row that changed, as lines.
 
-use gulxinett::{bytes, Cartridge, Refusal, FRAME_BYTES, LINE_BYTES, ROW_BYTES};
+use gulxinett::{bytes, picture, Cartridge, Refusal, FRAME_BYTES, LINE_BYTES, ROW_BYTES};
 
 /// The lines of some rows of an image.
 fn row_lines(image: &[u8], rows: impl IntoIterator<Item = usize>) -> String {
@@ -42,6 +42,72 @@ fn every_call_made_and_every_row_that_changed() {
     (image[5 * ROW_BYTES + 127], image[127 * ROW_BYTES]) = (9, 0xAB);
     cartridge.lend(&image).unwrap();
     assert_eq!(text(&cartridge), due + &row_lines(&image, [5, 127]));
+}
+
+/// A colour photograph under a header, and its image, worked out here.
+fn photograph(header: &str) -> (Vec<u8>, Vec<u8>) {
+    let pixels: Vec<u8> = (0..3 * FRAME_BYTES)
+        .map(|i| (i * 7 + i / 256) as u8)
+        .collect();
+    let value = |colour: &[u8]| {
+        let [r, g, b] = [0, 1, 2].map(|place| u16::from(colour[place]));
+        ((2 * r + 5 * g + b) / 8) as u8
+    };
+    let image = pixels.chunks_exact(3).map(value).collect();
+    ([header.as_bytes(), &pixels].concat(), image)
+}
+
+#[test]
+fn photographs_lent_are_the_rows_that_changed() {
+    let mut cartridge = Cartridge::default();
+    cartridge.write(0x4000, 0x10).unwrap();
+    cartridge.write(0xA003, 0x80).unwrap();
+    for place in 6..54 {
+        let value = 0x40 + 0x20 * (place % 3) + place;
+        cartridge.write(0xA000 + place, value as u8).unwrap();
+    }
+    let black = cartridge.picture();
+    cartridge.record();
+    let (mut file, mut image) = photograph("P6\n# a scan\n128 128\n255\n");
+    cartridge.lend_photo(&file).unwrap();
+    let registers = &cartridge.state().registers;
+    assert!(cartridge.picture() == picture(&image, registers));
+    assert!(cartridge.picture() != black);
+    let mut due = row_lines(&image, 0..128);
+    assert_eq!(text(&cartridge), due);
+    let (last, grey) = (file.len() - 3, !image[FRAME_BYTES - 1]);
+    file[last..].fill(grey);
+    image[FRAME_BYTES - 1] = grey;
+    cartridge.lend_photo(&file).unwrap();
+    due += &row_lines(&image, [127]);
+    assert_eq!(text(&cartridge), due);
+    let before = cartridge.clone();
+    for header in [
+        "",
+        "P6#\n128 128 255\n",
+        "P6\n0128 128\n255\n",
+        "P5\n128 128\n255\n",
+    ] {
+        let (none, _) = photograph(header);
+        assert_eq!(cartridge.lend_photo(&none), Err(Refusal::File));
+    }
+    for none in [&[], &file[1..], &file[..last], &vec![0; 10_000_000]] {
+        assert_eq!(cartridge.lend_photo(none), Err(Refusal::File));
+    }
+    assert!(cartridge == before);
+}
+
+#[test]
+fn images_for_photographs_that_are_refused() {
+    let (file, _) = photograph("P6 128 128 255 ");
+    for length in [0, FRAME_BYTES - 1, FRAME_BYTES + 1] {
+        let mut image = vec![0xA5; length];
+        for file in [&file[..], &[]] {
+            let answer = bytes::import_photo(file, &mut image).result();
+            assert_eq!(answer, Err(Refusal::Frame));
+        }
+        assert!(image == vec![0xA5; length]);
+    }
 }
 
 #[test]
