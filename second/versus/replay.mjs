@@ -15,7 +15,8 @@ const FENCE = 0xc3;
 const FENCE_BYTES = 64;
 /** The most bytes that each memory is lent, in the order of the steps. */
 const ROOM = {
-  state: 256, rom: 130 * 16384, ram: 34 * 8192, store: 32768, image: 32768, picture: 3584, out: 16384, registers: 54, row: 256,
+  state: 256, rom: 130 * 16384, ram: 34 * 8192, store: 32768, image: 32768, file: 10_000_000, picture: 3584, out: 16384, registers: 54,
+  row: 256,
 };
 const NAMES = Object.keys(ROOM);
 /** Every so many calls all of the memory is compared, what was not lent too. */
@@ -143,6 +144,7 @@ function kinds(steps, memories, exports) {
       makeRoom();
       return ["export", () => exports.gulxinett_export(...lent("ram", "out"))];
     },
+    () => ["import", () => exports.gulxinett_import_photo(...lent("file", "image"))],
   ];
 }
 

@@ -1,14 +1,14 @@
-//! What is written into a lent buffer: frames as script lines, a plate as a file.
+//! What is written into lent memory: frames as script lines, a plate as a file, a photograph as an image.
 
 use crate::timing::{self, sample, Effort, Spread};
 use gulxinett::bytes;
-use second::{Frame, GREY_FILE_BYTES};
+use second::{Frame, FRAME_BYTES, GREY_FILE_BYTES};
 use std::hint::black_box;
 
 const LINE: usize = 261;
 const PIXELS: usize = 128;
 
-/// Writes something with a number in it into a buffer.
+/// Writes something with a number in it.
 type Writer = fn(&mut Lent, u32);
 
 /// What a writer is lent.
@@ -16,14 +16,17 @@ struct Lent {
     row: [u8; PIXELS],
     ram: Vec<u8>,
     room: [u8; GREY_FILE_BYTES],
+    photo: Vec<u8>,
+    image: Vec<u8>,
 }
 
-/// Times both on a row of the image, a write and a plate; returns what each writes in a second.
-pub fn measure(effort: Effort) -> [String; 3] {
+/// Times both on a row of the image, a write, a plate and a photograph; returns what each writes in a second.
+pub fn measure(effort: Effort) -> [String; 4] {
     [
         compare("row lines", effort, proved_row, second_row),
         compare("write lines", effort, proved_write, second_write),
         compare("plates as files", effort, proved_file, second_file),
+        compare("photographs read", effort, proved_photo, second_photo),
     ]
 }
 
@@ -32,6 +35,8 @@ fn compare(what: &str, effort: Effort, proved: Writer, second: Writer) -> String
         row: std::array::from_fn(|place| place as u8 * 37),
         ram: (0..8_192).map(|place| (place * place / 7) as u8).collect(),
         room: [0; GREY_FILE_BYTES],
+        photo: photograph(),
+        image: vec![0; FRAME_BYTES],
     };
     let mut times = [const { Vec::new() }; 2];
     for round in 0..effort.rounds + 1 {
@@ -91,4 +96,23 @@ fn second_file(lent: &mut Lent, number: u32) {
     lent.ram[0x100] = number as u8;
     let written = second::export(&lent.ram, &mut lent.room);
     assert_eq!(written, Ok(()));
+}
+
+/// A colour photograph, with a comment as scanners write them.
+fn photograph() -> Vec<u8> {
+    let header = b"P6\n# a scan\n128 128\n255\n".iter().copied();
+    let pixels = (0..3 * FRAME_BYTES).map(|place| (place * place / 11) as u8);
+    header.chain(pixels).collect()
+}
+
+fn proved_photo(lent: &mut Lent, number: u32) {
+    lent.photo[0x100] = number as u8;
+    let answer = bytes::import_photo(&lent.photo, &mut lent.image);
+    assert_eq!(answer.0, 0);
+}
+
+fn second_photo(lent: &mut Lent, number: u32) {
+    lent.photo[0x100] = number as u8;
+    let read = second::import(&mut lent.image, &lent.photo);
+    assert_eq!(read, Ok(()));
 }

@@ -1,11 +1,11 @@
 //! The calls with the second program's answers, as a stream that another caller of the module
 //! replays.
 //!
-//! Both sides keep the seven memories in the order of [`memories`], each of them zeros at first, with
+//! Both sides keep the eight memories in the order of [`memories`], each of them zeros at first, with
 //! a length that is in use. Then come steps, numbers little-endian:
 //!
 //! - [`LENT`], which memory, its length as 4 bytes, a patch: it is lent so from here on;
-//! - the kind of a call 0 to 11 and its words, the answer as 8 bytes, how many memories it changed,
+//! - the kind of a call 0 to 12 and its words, the answer as 8 bytes, how many memories it changed,
 //!   and of each which one and a patch. The memory of what a call gives out, a picture, a line or
 //!   a file, is all [`UNDRAWN`] before;
 //! - [`END`] and how many calls there were, as 8 bytes.
@@ -21,9 +21,9 @@ use std::io::{Result, Write};
 const LENT: u8 = 0xFF;
 const END: u8 = 0xFE;
 /// Which of the memories is the picture, the first that a call gives out.
-const PICTURE: usize = 5;
+const PICTURE: usize = 6;
 /// Which is whatever else is given out.
-const OUT: usize = 6;
+const OUT: usize = 7;
 /// How many bytes of steps are written at once.
 const PIECE: usize = 1 << 20;
 
@@ -33,18 +33,19 @@ pub struct Answers {
     /// Steps not yet written, and whether those before them were.
     steps: Vec<u8>,
     written: Result<()>,
-    memories: [Vec<u8>; 7],
+    memories: [Vec<u8>; 8],
     lengths: [usize; PICTURE],
     calls: u64,
 }
 
-fn memories(side: &Side) -> [&[u8]; 7] {
+fn memories(side: &Side) -> [&[u8]; 8] {
     [
         &side.state,
         &side.rom,
         &side.ram,
         &side.store,
         &side.image,
+        &side.file,
         &side.picture,
         &side.out,
     ]
@@ -151,7 +152,8 @@ impl Answers {
                 self.steps.push(11);
                 self.steps.extend((*room as u16).to_le_bytes());
             }
-            Call::Image { .. } | Call::Lend { .. } | Call::Put { .. } => {
+            Call::Import => self.steps.push(12),
+            Call::Image { .. } | Call::File { .. } | Call::Lend { .. } | Call::Put { .. } => {
                 unreachable!("what is lent is no call")
             }
         }

@@ -41,9 +41,15 @@ pub enum Call {
     Export {
         room: usize,
     },
+    /// The file lent, read into the image.
+    Import,
     /// Another image is lent from here on.
     Image {
         kind: u8,
+        seed: u64,
+    },
+    /// Another file is lent from here on.
+    File {
         seed: u64,
     },
     /// Memory of another length is lent from here on.
@@ -62,7 +68,7 @@ impl Call {
     pub fn is_call(&self) -> bool {
         !matches!(
             self,
-            Call::Image { .. } | Call::Lend { .. } | Call::Put { .. }
+            Call::Image { .. } | Call::File { .. } | Call::Lend { .. } | Call::Put { .. }
         )
     }
 }
@@ -85,7 +91,9 @@ impl fmt::Display for Call {
             }
             Call::Record { frame, room } => write!(f, "{frame:?} recorded in {room} bytes"),
             Call::Export { room } => write!(f, "export in {room} bytes"),
+            Call::Import => write!(f, "import of the file lent"),
             Call::Image { kind, seed } => write!(f, "image of kind {kind}, seed {seed}"),
+            Call::File { seed } => write!(f, "file of seed {seed}"),
             Call::Lend { what, length } => write!(f, "lend {what:?} of {length} bytes"),
             Call::Put { record } => write!(f, "state {}", hex(record)),
         }

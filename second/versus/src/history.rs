@@ -130,7 +130,8 @@ impl<'a> History<'a> {
                 13..=14 => return Call::Reset,
                 15..=17 => return self.picture(),
                 18..=30 => return self.image(),
-                31..=65 => return Call::Inspect,
+                31..=61 => return Call::Inspect,
+                62..=65 => self.plan_photo(),
                 66..=70 => {
                     return Call::Export {
                         room: export_room(self.random),
@@ -188,6 +189,13 @@ impl<'a> History<'a> {
             address: 0xA000,
             value: registers[0],
         });
+    }
+
+    /// Lends a file, which may be none that can be read, and reads it into the image.
+    fn plan_photo(&mut self) {
+        let seed = self.random.next() >> 40;
+        self.planned.push_back(Call::File { seed });
+        self.planned.push_back(Call::Import);
     }
 
     /// Registers that start a capture, with exposures at which pixels differ more often than not.

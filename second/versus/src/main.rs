@@ -12,6 +12,7 @@ mod answers;
 mod call;
 mod history;
 mod lines;
+mod photos;
 mod random;
 mod script;
 mod shrink;
@@ -110,6 +111,12 @@ fn compare(calls: u64, seed: u64, answers: Option<Answers>) -> Option<Option<Ans
     sweep::exports(&mut tally, &mut random);
     println!(
         "plates as files: {} calls compared",
+        tally.compared - before
+    );
+    let before = tally.compared;
+    let read = photos::compare(&mut tally, &mut random);
+    println!(
+        "photographs: {} calls compared, {read} of them of files that are read",
         tally.compared - before
     );
     tally

@@ -1,6 +1,7 @@
 //! The two sides: the archive and the second program, each with memory of its own.
 
 use crate::call::{hex, Call, Lent};
+use crate::photos;
 use crate::random::Random;
 use gulxinett::bytes;
 use second::{Frame, State};
@@ -21,6 +22,7 @@ pub struct Side {
     pub ram: Vec<u8>,
     pub store: Vec<u8>,
     pub image: Vec<u8>,
+    pub file: Vec<u8>,
     pub picture: [u8; 3584],
     /// The bytes that a call gave out.
     pub out: Vec<u8>,
@@ -61,6 +63,7 @@ impl Side {
     fn arrange(&mut self, call: &Call) {
         match call {
             Call::Image { kind, seed } => paint(&mut self.image, *kind, *seed),
+            Call::File { seed } => self.file = photos::random_file(&mut Random::new(*seed)),
             Call::Lend { what, length } => self.lent(*what).resize(*length, 0x3C),
             Call::Put { record } => self.state = record.to_vec(),
             _ => {}
@@ -82,6 +85,9 @@ impl Side {
         if let Call::Export { room } = call {
             self.make_room(*room);
             return bytes::export(&self.ram, &mut self.out).0;
+        }
+        if let Call::Import = call {
+            return bytes::import_photo(&self.file, &mut self.image).0;
         }
         let Side {
             state,
@@ -125,6 +131,9 @@ impl Side {
             self.make_room(*room);
             return self.export_second();
         }
+        if let Call::Import = call {
+            return self.import_second();
+        }
         let Some(mut state) = State::from_bytes(&self.state) else {
             return refused(1);
         };
@@ -164,6 +173,11 @@ impl Side {
             |refusal| refused(refusal.number().into()),
             |()| second::GREY_FILE_BYTES as u64,
         )
+    }
+
+    fn import_second(&mut self) -> u64 {
+        let read = second::import(&mut self.image, &self.file);
+        read.map_or_else(|refusal| refused(refusal.number().into()), |()| 0)
     }
 
     fn draw_second(&mut self, of: Lent, registers: &[u8; 54]) -> u64 {
@@ -241,6 +255,7 @@ impl Pair {
             ram: noise(beginning.ram_banks * 8_192),
             store: noise(16_384),
             image: noise(16_384),
+            file: Vec::new(),
             picture: [0; 3584],
             out: Vec::new(),
         };
@@ -288,6 +303,7 @@ impl Pair {
             ],
             Call::Record { .. } => &[("line", &a.out, &b.out)],
             Call::Export { .. } => &[("RAM", &a.ram, &b.ram), ("file", &a.out, &b.out)],
+            Call::Import => &[("image", &a.image, &b.image), ("file", &a.file, &b.file)],
             _ => &[],
         };
         let state = parted("state", &a.state, &b.state)

@@ -1,7 +1,7 @@
 //! Every combination of good and bad arguments, and every setting of the picture.
 
 use crate::answers::Answers;
-use crate::call::{Call, Lent};
+use crate::call::{hex, Call, Lent};
 use crate::lines;
 use crate::random::Random;
 use crate::sides::{paint, parted, refused, Beginning, Pair, Side};
@@ -20,7 +20,7 @@ pub struct Tally {
 
 impl Tally {
     /// Makes one call on both sides, which must answer alike, and with the refusal if one is due.
-    fn compare(&mut self, side: &Side, call: &Call, due: Option<u64>) {
+    pub fn compare(&mut self, side: &Side, call: &Call, due: Option<u64>) {
         self.compared += 1;
         let mut archive = side.clone();
         let mut second = side.clone();
@@ -32,28 +32,48 @@ impl Tally {
         let due_now = due.map_or(answers[1] >> 32 == 0, |number| {
             answers[1] == refused(number)
         });
-        let parting = parted("state", &archive.state, &second.state)
-            .or_else(|| parted("ROM", &archive.rom, &second.rom))
-            .or_else(|| parted("RAM", &archive.ram, &second.ram))
-            .or_else(|| parted("store", &archive.store, &second.store))
-            .or_else(|| parted("image", &archive.image, &second.image))
-            .or_else(|| parted("picture", &archive.picture, &second.picture))
-            .or_else(|| parted("bytes given out", &archive.out, &second.out));
-        if answers[0] == answers[1] && due_now && parting.is_none() {
+        let parting = parting(&archive, &second);
+        let kept = answers[1] >> 32 == 0 || lent(&second) == lent(side);
+        if answers[0] == answers[1] && due_now && kept && parting.is_none() {
             return;
         }
         let lengths = [&side.rom, &side.ram, &side.store, &side.image].map(|lent| lent.len());
         self.differences.push(format!(
             "{call}\n  lent ROM, RAM, store, image of {lengths:?} bytes, {}\n  \
-             answers: archive {:X}h, second {:X}h, refusal due: {due:?}; {}",
+             a file of {} bytes that starts {}\n  \
+             answers: archive {:X}h, second {:X}h, refusal due: {due:?}, lent bytes kept: {kept}; {}",
             Call::Put {
                 record: side.state.clone().into()
             },
+            side.file.len(),
+            hex(&side.file[..side.file.len().min(272)]),
             answers[0],
             answers[1],
             parting.unwrap_or_default(),
         ));
     }
+}
+
+/// All that is lent to calls, by its name.
+fn lent(side: &Side) -> [(&str, &[u8]); 6] {
+    [
+        ("state", &side.state),
+        ("ROM", &side.rom),
+        ("RAM", &side.ram),
+        ("store", &side.store),
+        ("image", &side.image),
+        ("file", &side.file),
+    ]
+}
+
+/// Where what is lent or given out parts.
+fn parting(archive: &Side, second: &Side) -> Option<String> {
+    lent(archive)
+        .iter()
+        .zip(lent(second))
+        .find_map(|((name, a), (_, b))| parted(name, a, b))
+        .or_else(|| parted("picture", &archive.picture, &second.picture))
+        .or_else(|| parted("bytes given out", &archive.out, &second.out))
 }
 
 /// Records that are refused or not, one for each reason.
@@ -143,7 +163,7 @@ const RAMS: [Choice<usize>; 8] = [
     (12_288, true),
     (24_576, true),
 ];
-const FRAMES: [Choice<usize>; 5] = [
+pub const FRAMES: [Choice<usize>; 5] = [
     (16_384, false),
     (0, true),
     (16_383, true),
@@ -163,7 +183,7 @@ const ADDRESSES: [Choice<u16>; 9] = [
 ];
 
 /// The lowest refusal that is due.
-fn lowest(reasons: &[(u64, bool)]) -> Option<u64> {
+pub fn lowest(reasons: &[(u64, bool)]) -> Option<u64> {
     reasons
         .iter()
         .filter(|(_, due)| *due)
@@ -187,6 +207,7 @@ pub fn refusals(tally: &mut Tally) {
             ram: empty(),
             store: empty(),
             image: empty(),
+            file: empty(),
             picture: [0; 3584],
             out: empty(),
         };
