@@ -13,6 +13,7 @@
 static uint8_t state[GULXINETT_STATE_LEN], rom[GULXINETT_ROM_BANK_LEN], ram[GULXINETT_RAM_BANK_LEN];
 static uint8_t store[GULXINETT_FRAME_LEN], image[GULXINETT_FRAME_LEN], picture[GULXINETT_PICTURE_LEN];
 static uint8_t line[GULXINETT_LINE_LEN], plate[GULXINETT_PLATE_LEN];
+static uint8_t photograph[15 + 3 * GULXINETT_FRAME_LEN] = "P6\n128 128\n255\n";
 static uint8_t room[ROOM];
 static ucontext_t here, there;
 
@@ -59,6 +60,7 @@ static void everything(void)
         gulxinett_read(state, sizeof state, rom, sizeof rom, ram, sizeof ram, 0x0000);
         record();
         gulxinett_export(ram, sizeof ram, plate, sizeof plate);
+        gulxinett_import_photo(photograph, sizeof photograph, image, sizeof image);
     }
 }
 

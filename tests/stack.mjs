@@ -22,6 +22,7 @@ for (let mode = 0; mode < 16; mode++) {
   cartridge.picture();
   cartridge.record();
   cartridge.export();
+  cartridge.importPhoto();
 }
 const used = stack - lowest();
 console.log(`stack: calls in every mode used ${used} bytes of the browser module's ${stack}; ${allowed} were worked out`);

@@ -1,7 +1,9 @@
 // The browser module with a cartridge's parts lent to it, for tests and the bench.
 import { readFileSync } from "node:fs";
 
-const SIZES = { state: 116, ram: 8192, store: 16384, image: 16384, registers: 54, picture: 3584, line: 261, plate: 14351 };
+const SIZES = {
+  state: 116, ram: 8192, store: 16384, image: 16384, registers: 54, picture: 3584, line: 261, plate: 14351, photograph: 15 + 3 * 16384,
+};
 const PAGE = 65536;
 const TRIGGER = 0xa000;
 
@@ -28,6 +30,8 @@ export function lend(path) {
     image[place] = (place % 128) * 3 + Math.floor(place / 128) * 5 + ((place * place) % 61);
   });
 
+  view("photograph").set(new TextEncoder().encode("P6\n128 128\n255\n"));
+
   const lent = (...names) => names.flatMap((name) => [at[name], BigInt(SIZES[name])]);
   const cartridge = {
     size: bytes.length,
@@ -41,6 +45,7 @@ export function lend(path) {
     inspect: () => value(call.gulxinett_inspect(...lent("state"))),
     picture: () => value(call.gulxinett_picture(...lent("image"), at.registers, at.picture)),
     export: () => value(call.gulxinett_export(...lent("ram", "plate"))),
+    importPhoto: () => value(call.gulxinett_import_photo(...lent("photograph", "image"))),
     /** A line of each kind. */
     record() {
       const room = lent("line");
