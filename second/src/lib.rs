@@ -3,14 +3,16 @@
 //! [`State`] is the record the controller keeps; ROM, RAM, image and frame store are lent as slices.
 //! [`read`], [`write`], [`tick`], [`inspect`] and [`picture`] are the calls, [`Session`] is the bus script,
 //! and [`Frame::write_line`] writes its lines. [`export`] makes a grey image of the picture area, and
-//! [`import`] an image of a colour photograph.
+//! [`import`] an image of a colour photograph. [`choose`] sets a contrast level by its number.
 
 #![forbid(unsafe_code)]
 
 mod bus;
 mod capture;
 mod colour;
+mod desk;
 mod grey;
+mod levels;
 mod lines;
 mod picture;
 mod refusal;
@@ -22,7 +24,9 @@ mod tests;
 pub use bus::{inspect, read, tick, write, Element};
 pub use capture::Timing;
 pub use colour::import;
+pub use desk::choose;
 pub use grey::{export, GREY_FILE_BYTES};
+pub use levels::CONTRAST_LEVELS;
 pub use lines::{Lines, LONGEST_LINE};
 pub use picture::{picture, Plate, PICTURE_HEIGHT, PICTURE_WIDTH, PLATE_BYTES, PLATE_OFFSET};
 pub use refusal::Refusal;

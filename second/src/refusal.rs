@@ -20,6 +20,8 @@ pub enum Refusal {
     Buffer = 7,
     /// A file is not of the one kind that is read.
     File = 8,
+    /// There is no such light set or contrast level.
+    Choice = 9,
 }
 
 impl Refusal {

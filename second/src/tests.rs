@@ -2,6 +2,7 @@
 
 mod calls;
 mod colour;
+mod desk;
 mod figures;
 mod grey;
 mod lines;
