@@ -1,28 +1,32 @@
 -- Laws of a plate's pixels. Assumes nothing.
 use mathlib.Core.Path.{_≡_, refl, sym, _∙_}
 use mathlib.Core.List.{List}
-use Prim.Native.Nat.{ℕ, _+_, _*_, _/_, _%_, _<_}
+use Prim.Native.Nat.{ℕ, zero, suc, _+_, _*_, _/_, _%_, _<_, _≤_}
+use native.Mathlib.Nat.{add-zero}
 use native.Mathlib.Omega.{arith}
 use lib.ListN.{getD}
-use Rattle.laws.specs.Lists.{listed}
-use Rattle.laws.proofs.Packed.{listed-ext}
 use Rattle.tiles.specs.Tiles.{shadeIn}
+use Rattle.laws.proofs.Filled.{Filled, filled-more, filled-to}
 use Rattle.plates.specs.Grey.{greyAt}
-use Rattle.plates.specs.Eight.{eightOf}
+use Rattle.plates.specs.Eight.{eightOf, putFirst}
 
--- the place of the eight pixels from number 8 i on
-abbrev pub placeOf : ℕ → ℕ
-placeOf i = 0x100 + 16 * (16 * (i / 16 / 8) + i % 16) + 2 * (i / 16 % 8)
+-- the place of the eight pixels of column t of tiles in row y
+abbrev pub placeOf : ℕ → ℕ → ℕ
+placeOf y t = 0x100 + 16 * (16 * (y / 8) + t) + 2 * (y % 8)
 
 -- the pixels that stand in two bytes
-pub eight-same : (ram : List ℕ) (i : ℕ) → i < 1792 → listed (eightOf (getD ram (placeOf i) 0) (getD ram (placeOf i + 1) 0)) 8 ≡ listed (λ b. greyAt ram (8 * i + b)) 8
+pub eight-same : (ram : List ℕ) (y t : ℕ) → t < 16 → (b : ℕ) → b < 8 → eightOf (getD ram (placeOf y t) 0) (getD ram (placeOf y t + 1) 0) b ≡ greyAt ram (8 * (16 * y + t) + b)
 unfolding eightOf greyAt shadeIn
-eight-same ram i h = listed-ext _ _ 8 same
-  where
-    same : (b : ℕ) → b < 8 → eightOf (getD ram (placeOf i) 0) (getD ram (placeOf i + 1) 0) b ≡ greyAt ram (8 * i + b)
-    same b l =
-        let x : (8 * i + b) % 128 ≡ 8 * (i % 16) + b = omega arith in
-        let y : (8 * i + b) / 128 ≡ i / 16 = omega arith in
-        let t : (8 * (i % 16) + b) / 8 ≡ i % 16 = omega arith in
-        let m : (8 * (i % 16) + b) % 8 ≡ b = omega arith in
-        rw (x, y, t, m)
+eight-same ram y t h b l =
+    let x : (8 * (16 * y + t) + b) % 128 ≡ 8 * t + b = omega arith in
+    let r : (8 * (16 * y + t) + b) / 128 ≡ y = omega arith in
+    let q : (8 * t + b) / 8 ≡ t = omega arith in
+    let m : (8 * t + b) % 8 ≡ b = omega arith in
+    rw (x, r, q, m)
+
+-- pixels put one after the other fill on
+pub first-filled : (f : ℕ → ℕ) (size : ℕ) (pixels : List ℕ) (at low high n : ℕ) → Filled f size at pixels → at + n ≤ size → ((b : ℕ) → b < n → eightOf low high b ≡ f (at + b)) → Filled f size (at + n) (putFirst pixels at low high n)
+unfolding putFirst
+first-filled f size pixels at low high zero r h e = filled-to f r (sym (add-zero at))
+first-filled f size pixels at low high (suc n) r h e =
+    filled-to f (filled-more f (eightOf low high n) (first-filled f size pixels at low high n r (omega arith) (λ b l. e b (omega arith))) (omega arith) (e n (omega arith))) (omega arith)

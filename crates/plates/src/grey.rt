@@ -11,7 +11,7 @@ ghost use Rattle.laws.specs.Lists.{listed};
 ghost use Rattle.controller.specs.Outcome.{verdictNumber};
 ghost use Rattle.controller.specs.Table.{lowest};
 ghost use Rattle.plates.specs.Grey.{header, greyOf, greyAt, plateOf, outputNumber, outputValue, exported, exportRows, exportMeans};
-ghost use Rattle.plates.specs.Eight.{eightOf};
+ghost use Rattle.plates.specs.Eight.{putFirst};
 
 // What a file starts with: kind, columns, rows and largest value.
 const HEADER: [u8; 15] = *b"P5\n128 112\n255\n";
@@ -32,41 +32,30 @@ fn grey(low: u8, high: u8) -> u8
     255 - 85 * (low + 2 * high)
 }
 
-// The greys of eight pixels of a row, from their low bits and their high bits.
-fn greys(low: u8, high: u8) -> [u8; 8]
-    ensures { λ r. ⌜ r ≡ listed (eightOf low high) 8 ⌝ }
+// Puts the greys of eight pixels of a row, from their low bits and their high bits.
+fn put_eight(pixels: &mut [u8], at: usize, low: u8, high: u8)
+    requires { ⌜ (at + 8 ≤ length (now pixels)) × (at < 14336) ⌝ }
+    ensures { λ _. ⌜ now (pixels .exit) ≡ putFirst (now (pixels .entry)) at low high 8 ⌝ }
 {
-    [
-        grey(low / 128 % 2, high / 128 % 2),
-        grey(low / 64 % 2, high / 64 % 2),
-        grey(low / 32 % 2, high / 32 % 2),
-        grey(low / 16 % 2, high / 16 % 2),
-        grey(low / 8 % 2, high / 8 % 2),
-        grey(low / 4 % 2, high / 4 % 2),
-        grey(low / 2 % 2, high / 2 % 2),
-        grey(low / 1 % 2, high / 1 % 2),
-    ]
+    pixels[at] = grey(low / 128 % 2, high / 128 % 2);
+    pixels[at + 1] = grey(low / 64 % 2, high / 64 % 2);
+    pixels[at + 2] = grey(low / 32 % 2, high / 32 % 2);
+    pixels[at + 3] = grey(low / 16 % 2, high / 16 % 2);
+    pixels[at + 4] = grey(low / 8 % 2, high / 8 % 2);
+    pixels[at + 5] = grey(low / 4 % 2, high / 4 % 2);
+    pixels[at + 6] = grey(low / 2 % 2, high / 2 % 2);
+    pixels[at + 7] = grey(low / 1 % 2, high / 1 % 2);
 }
 
-// Eight pixels, from number 8 * i on, of the two bytes they stand in.
-fn eight_at(ram: &[u8], i: usize) -> [u8; 8]
-    requires { ⌜ (8192 ≤ length (now ram)) × (i < 1792) ⌝ }
-    ensures { λ r. ⌜ r ≡ listed (λ b. greyAt (now (ram .entry)) (8 * i + b)) 8 ⌝ }
-{
-    let y = i / 16;
-    let o = tiles::PICTURE + 16 * (16 * (y / 8) + i % 16) + 2 * (y % 8);
-    greys(ram[o], ram[o + 1])
-}
-
-// All pixels, row by row, eight at a time.
+// All pixels, row by row, eight at a time: each byte of the area is read once.
 fn put_pixels(ram: &[u8], pixels: &mut [u8])
     requires { ⌜ (8192 ≤ length (now ram)) × (length (now pixels) ≡ 14336) ⌝ }
     ensures { λ _. ⌜ now (pixels .exit) ≡ listed (greyAt (now (ram .entry))) 14336 ⌝ }
 {
-    for i in 0..1792 {
-        let eight = eight_at(ram, i);
-        for b in 0..8 {
-            pixels[8 * i + b] = eight[b];
+    for y in 0..112 {
+        for t in 0..16 {
+            let o = tiles::PICTURE + 16 * (16 * (y / 8) + t) + 2 * (y % 8);
+            put_eight(pixels, 8 * (16 * y + t), ram[o], ram[o + 1]);
         }
     }
 }

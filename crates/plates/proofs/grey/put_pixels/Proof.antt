@@ -1,36 +1,38 @@
 -- `plates::grey::put_pixels` meets its contract: the invariant: the pixels put so far. Assumes nothing.
-use mathlib.Core.Path.{_≡_, sym, ap, _∙_}
-use mathlib.Core.List.{List}
+use mathlib.Core.Path.{_≡_}
 use Prim.Native.Nat.{ℕ, _+_, _-_, _*_, _≤_}
 use native.Mathlib.Omega.{arith}
-use lib.ListN.{getD}
-use Rattle.laws.proofs.Packed.{listed-at}
 use Rattle.plates.specs.Grey.{greyAt}
-use Rattle.laws.proofs.Filled.{Filled, filled-none, filled-more, filled-end, filled-to}
+use Rattle.laws.proofs.Filled.{Filled, filled-none, filled-end, filled-to}
+use Rattle.plates.proofs.Plates.{eight-same, first-filled}
 use borrow.Author.Needs.{needs}
 use Rattle.plates.proofs.grey.put_pixels.Statement.{statement}
 use Rattle.plates.proofs.grey.put_pixels.Tie as tie
 
 abbrev Inv-loop2 : tie.InvT-loop2
-Inv-loop2 ram pixels₀ i eight b₀ pixels b = (b ≤ 8) × Filled (greyAt ram) 14336 (8 * i + b) pixels
+Inv-loop2 ram pixels₀ y t₀ pixels t = (t ≤ 16) × Filled (greyAt ram) 14336 (8 * (16 * y + t)) pixels
 
 abbrev μ-loop2 : tie.MeasureT-loop2
-μ-loop2 ram pixels₀ i eight b₀ pixels b = 8 - b
+μ-loop2 ram pixels₀ y t₀ pixels t = 16 - t
 
 abbrev Inv-loop : tie.InvT-loop
-Inv-loop ram pixels₀ i₀ pixels i = (i ≤ 1792) × Filled (greyAt ram) 14336 (8 * i) pixels
+Inv-loop ram pixels₀ y₀ pixels y = (y ≤ 112) × Filled (greyAt ram) 14336 (8 * (16 * y)) pixels
 
 abbrev μ-loop : tie.MeasureT-loop
-μ-loop ram pixels₀ i₀ pixels i = 1792 - i
+μ-loop ram pixels₀ y₀ pixels y = 112 - y
+
+put-eight-requires : tie.Need-put-eight-requires Inv-loop2 μ-loop2 Inv-loop μ-loop
+put-eight-requires c κs =
+    let l = c .before .before .before .before .loop2 in
+    (omega (arith, l .inv .1 .whole), omega arith)
 
 loop2-again : tie.Need-loop2-again Inv-loop2 μ-loop2 Inv-loop μ-loop
 loop2-again c =
-    let f = c .before .before in
-    let ram = f .before .before .before .before .before .args .ram .now in
-    let i = f .before .before .loop .i in
-    let b = c .before .loop2 .b in
-    let v : getD (f .eight-at .result) b 0 ≡ greyAt ram (8 * i + b) = ap (λ (l : List ℕ). getD l b 0) (f .eight-at .ensures) ∙ listed-at (λ (n : ℕ). greyAt ram (8 * i + n)) 8 b (omega arith) in
-    (omega arith, filled-to (greyAt ram) (filled-more (greyAt ram) _ (c .before .loop2 .inv .1) (omega arith) v) (omega arith))
+    let e = c .before .before in
+    let l = e .before .before .before .before .before .loop2 in
+    let o = e .before .before .before .before .before .before .before .loop in
+    let ram = e .before .before .before .before .before .before .before .before .before .before .args .ram .now in
+    (omega arith, rw (e .put-eight .ensures) (filled-to _ (first-filled (greyAt ram) 14336 (l .pixels) (8 * (16 * o .y + l .t)) _ _ 8 (l .inv .1) (omega arith) (λ b h. eight-same ram (o .y) (l .t) (omega arith) b h)) (omega arith)))
 
 pub put-pixels-spec : {M : Type 1} → statement M
 put-pixels-spec =
@@ -41,12 +43,20 @@ put-pixels-spec =
     Inv-loop
     μ-loop
     (λ c. (omega arith, filled-none _ _ (omega arith)))
-    (λ c κs. (omega arith, omega arith))
-    (λ c. (omega arith, filled-to _ (c .before .before .loop .inv .1) (omega arith)))
+    (λ c. (omega arith, filled-to _ (c .before .loop .inv .1) (omega arith)))
     (λ c. omega arith)
     (λ c. omega arith)
     (λ c. omega arith)
-    (λ c. omega (arith, c .before .loop2 .inv .1 .whole))
+    (λ c. omega arith)
+    (λ c. omega arith)
+    (λ c. omega arith)
+    (λ c. omega arith)
+    (λ c. omega arith)
+    (λ c. omega arith)
+    (λ c. omega arith)
+    (λ c. omega arith)
+    (λ c. omega arith)
+    put-eight-requires
     (λ c. omega arith)
     (λ c. omega arith)
     loop2-again
