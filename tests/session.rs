@@ -35,7 +35,7 @@ impl Session {
     fn below(&mut self, limit: u32) -> u32 {
         let next = self.state.wrapping_mul(1_664_525);
         self.state = next.wrapping_add(1_013_904_223);
-        (u64::from(self.state >> 8) * u64::from(limit) >> 24) as u32
+        ((u64::from(self.state >> 8) * u64::from(limit)) >> 24) as u32
     }
 
     /// Notes what `bus` would answer.
