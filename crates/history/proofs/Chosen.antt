@@ -5,7 +5,7 @@ use mathlib.Core.List.{List, [], _∷_, _++_}
 use Prim.Native.Nat.{ℕ, zero, suc, _+_, _/_, _%_, _<_, _≤_}
 use native.Mathlib.Omega.{arith}
 use lib.ListN.{length, getD, set}
-use borrow.Author.Tests.{ne-eqb, lt-ltb, le-ltb, le-leb, ltb-false}
+use borrow.Author.Tests.{eqb-true, ne-eqb, lt-ltb, le-ltb, le-leb, ltb-false}
 use Rattle.laws.specs.Pick.{pick}
 use Rattle.controller.specs.declared.Controller.{Controller}
 use Rattle.controller.specs.Lent.{ramAllowed, frameAllowed}
@@ -16,14 +16,15 @@ use Rattle.controller.proofs.Written.{written-register}
 use Rattle.desk.specs.declared.choice.Exposure.{Exposure}
 use Rattle.desk.specs.Choice.{stepsOf, valueOf, stored, registersChosen, withRegisters}
 use Rattle.desk.proofs.Registers.{stored-before}
-use Rattle.desk.proofs.Level.{exists-with}
-use Rattle.history.specs.History.{Call, write, choose, World, fresh, leaves, after}
+use Rattle.desk.proofs.Choices.{choose-none, choose-refuses}
+use Rattle.desk.proofs.Level.{exists-with, level-after}
+use Rattle.history.specs.History.{Call, write, inspect, choose, World, fresh, leaves, answers, matrix, after}
 use Rattle.history.specs.Track.{Track, choiceAccepted, starts, ends, lands, registersAt, storing, next, told}
 use Rattle.history.specs.Writes.{registerWrites, choiceWrites}
 use Rattle.history.proofs.Exists.{exists-select, exists-register}
 use Rattle.history.proofs.Follows.{write-leaves, choose-leaves}
 use Rattle.history.proofs.Goes.{after-append}
-use Rattle.history.proofs.Reachable.{reachable}
+use Rattle.history.proofs.Reachable.{sound, reachable}
 
 -- a choice starts nothing, ends nothing and lands nowhere
 pub record Quiet (t : Track) (k : Call) : Type 0 where
@@ -54,6 +55,15 @@ module _ (ram store : List ℕ) (cs : List Call) (light level : ℕ) (plain : Bo
       → registersAt (next (told ram store cs) (choose light level plain exposure)) (write image a v) ≡ set (registersChosen (told ram store cs .registers) light level plain exposure) 0 (v % 8)
   unfolding registersAt next storing
   choice-taken ok image a v = rw ok
+
+  -- Level: an inspection right after it finds no reversed element
+  pub choice-level : choiceAccepted light level ≡ true
+      → answers (leaves (after (fresh ram store) cs) (choose light level plain exposure)) inspect ≡ matrix (record { number = 0; found = false; row = 0; column = 0 })
+  unfolding choiceAccepted answers leaves
+  choice-level ok =
+      let s = sound ram store cs in
+      let none = eqb-true _ _ (choose-none (now .state) light level (s .exists) ∙ ok) in
+      ap matrix (level-after light level plain exposure (now .state) (s .wide) (choose-refuses (now .state) light level plain exposure .numbered ∙ none))
 
 -- ---- as bus writes
 
