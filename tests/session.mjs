@@ -9,6 +9,8 @@ import { FRAME_BYTES, PICTURE_BYTES, RAM_BANK, REGISTERS, Refusal, STATE_BYTES, 
 
 const TRIGGER = 0xa000;
 const AREA = 0xa100;
+/** A choice amounts to select, 2 registers of the exposure, 48 of the matrix, and select. */
+const CHOICE_WRITES = 52;
 const { Cartridge } = await load();
 
 /** Numbers below a limit, by a seed. */
@@ -51,6 +53,7 @@ class Session {
     if (kind < 1) this.call(0, () => this.cartridge.reset());
     else if (kind < 5) this.lend();
     else if (kind < 8) this.capture();
+    else if (kind < 10) this.choose();
     else if (kind < 40) this.read(this.address());
     else if (kind < 55) this.write(this.address(), this.below(256));
     else if (kind < 60) this.write(0, [0, 0x0a][this.below(2)]);
@@ -88,6 +91,19 @@ class Session {
     this.write(TRIGGER, 0);
     for (let n = REGISTERS - 1; n > 0; n--) this.write(TRIGGER + n, n === 2 ? this.below(4) : this.below(256));
     this.write(TRIGGER, 1 + 2 * this.below(4));
+  }
+
+  /** A choice, which may be none: it has no line of its own, and one that is refused has none at all. */
+  choose() {
+    const [light, level, dithering] = [this.below(3), this.below(17), this.below(2) === 0];
+    const exposure = this.below(3) === 0 ? undefined : this.below(65536);
+    try {
+      this.cartridge.choose({ light, level, dithering, exposure });
+    } catch (error) {
+      if (!(error instanceof Refusal && error.number === 9)) throw error;
+      return;
+    }
+    for (let write = 0; write < CHOICE_WRITES; write++) this.answers.push("00");
   }
 
   /** What only looks is no call of a script. */

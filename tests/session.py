@@ -11,6 +11,8 @@ from gulxinett import FRAME_BYTES, PICTURE_BYTES, RAM_BANK, REGISTERS, STATE_BYT
 
 TRIGGER = 0xA000
 AREA = 0xA100
+# a choice amounts to select, 2 registers of the exposure, 48 of the matrix, and select
+CHOICE_WRITES = 52
 
 
 class Session:
@@ -51,6 +53,8 @@ class Session:
             self.lend()
         elif kind < 8:
             self.capture()
+        elif kind < 10:
+            self.choose()
         elif kind < 40:
             self.read(self.address())
         elif kind < 55:
@@ -95,6 +99,18 @@ class Session:
         for n in reversed(range(1, REGISTERS)):
             self.write(TRIGGER + n, self.below(4 if n == 2 else 256))
         self.write(TRIGGER, 1 + 2 * self.below(4))
+
+    def choose(self):
+        """A choice, which may be none: it has no line of its own, and one that is refused has none at all."""
+        light, level, dithering = self.below(3), self.below(17), self.below(2) == 0
+        exposure = None if self.below(3) == 0 else self.below(65536)
+        try:
+            self.cartridge.choose(light=light, level=level, dithering=dithering, exposure=exposure)
+        except Refusal as refusal:
+            if refusal.number != 9:
+                raise
+            return
+        self.answers += ["00"] * CHOICE_WRITES
 
     def look(self):
         """What only looks is no call of a script."""

@@ -4,7 +4,7 @@
 //! usage: session SAVE OUT SEED STEPS [plate]; session.mjs has what the words mean
 
 use gulxinett::{
-    Cartridge, Refusal, Save, FRAME_BYTES, PICTURE_BYTES, RAM_BANK, REGISTERS, STATE_BYTES,
+    Cartridge, Choice, Refusal, Save, FRAME_BYTES, PICTURE_BYTES, RAM_BANK, REGISTERS, STATE_BYTES,
 };
 use std::error::Error;
 use std::fs;
@@ -12,6 +12,8 @@ use std::path::Path;
 
 const TRIGGER: u16 = 0xA000;
 const AREA: u16 = 0xA100;
+/// A choice amounts to select, 2 registers of the exposure, 48 of the matrix, and select.
+const CHOICE_WRITES: usize = 52;
 
 struct Session {
     cartridge: Cartridge,
@@ -71,7 +73,8 @@ impl Session {
             0 => self.reset(),
             1..=4 => self.lend(),
             5..=7 => self.capture(),
-            8..=39 => {
+            8..=9 => self.choose(),
+            10..=39 => {
                 let address = self.address();
                 self.read(address);
             }
@@ -143,6 +146,24 @@ impl Session {
         }
         let kind = self.below(4) as u8;
         self.write(TRIGGER, 1 + 2 * kind);
+    }
+
+    /// A choice, which may be none: it has no line of its own, and one that is refused has none at
+    /// all.
+    fn choose(&mut self) {
+        let choice = Choice {
+            light: self.below(3) as u8,
+            level: self.below(17) as u8,
+            dithering: self.below(2) == 0,
+            exposure: match self.below(3) {
+                0 => None,
+                _ => Some(self.below(65_536) as u16),
+            },
+        };
+        match self.cartridge.choose(choice) {
+            Ok(()) => (0..CHOICE_WRITES).for_each(|_| self.note(Ok(String::new()))),
+            Err(refusal) => assert_eq!(refusal, Refusal::Choice),
+        }
     }
 
     /// What only looks is no call of a script.

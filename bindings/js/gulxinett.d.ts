@@ -24,7 +24,7 @@ export const PLATE_BYTES: 14351;
  * 1 the state record can't exist, 2 the ROM length is not allowed, 3 the RAM length is not allowed, 4 the image
  * or the frame store is not 16,384 bytes, 5 the address is outside 0000-7FFF and A000-BFFF, 6 a script line or
  * image row is malformed, 7 the room lent for what is written is too short, 8 the file is not one
- * that can be read.
+ * that can be read, 9 the light set of a choice is above 1 or its level above 15.
  */
 export class Refusal extends Error {
   constructor(number: number);
@@ -60,6 +60,18 @@ export interface Given {
   store?: Bytes;
 }
 
+/** A contrast level that people know, instead of 48 numbers. */
+export interface Choice {
+  /** 0 for high light, 1 for low light. */
+  light: number;
+  /** 0 is the lowest contrast, 7 the default, 15 the highest. */
+  level: number;
+  /** Off, the upper left three values of the matrix stand for all; without it on. */
+  dithering?: boolean;
+  /** Exposure steps up to 65,535; unnamed they are 0300h. */
+  exposure?: number;
+}
+
 /**
  * A cartridge: state, ROM, RAM, frame store and the image lent, in the module's memory.
  *
@@ -75,6 +87,11 @@ export interface Cartridge {
   write(address: number, value: number): void;
   /** Lets cycles pass; how many of them fell while a capture was running. */
   tick(cycles: number): number;
+  /**
+   * Writes the matrix and the exposure registers as chosen, and nothing else: a capture held goes on with the registers
+   * of its start. A recorder has it as the bus writes that it amounts to, unless it is refused.
+   */
+  choose(choice: Choice): void;
   /** The first element of the current matrix whose three values don't rise or stay level; null if there is none. */
   inspect(): Element | null;
   /** Lends an image of 16,384 bytes to the writes that follow; until then it is all 00. */

@@ -22,6 +22,11 @@ export const PICTURE_OFFSET = 0x100;
 /** Bytes of a plate as a Netpbm P5 file: a header of 15, then one for each of 128 by 112 pixels. */
 export const PLATE_BYTES = 14_351;
 
+/** The exposure that names none. */
+const UNNAMED = 0x1_0000;
+
+/** Where select stands in the state record. */
+const SELECT_OFFSET = 2;
 /** Where the registers stand in the state record. */
 const REGISTERS_OFFSET = 8;
 
@@ -35,6 +40,7 @@ const SENTENCES = {
   6: "the script line or image row is malformed",
   7: "the room lent for what is written is too short",
   8: "the file is not one that can be read",
+  9: "the light set is above 1 or the level above 15",
 };
 
 /** A call that was refused, by its number; it changed nothing. */
@@ -213,6 +219,17 @@ function bound(exports) {
       upTo(0xffff_ffff, "the cycles", cycles);
       this.#recorder?.note("tick", cycles);
       return valueOf(exports.gulxinett_tick(...this.#ticking, cycles));
+    }
+
+    /** Writes the matrix of a light set and a level, and the exposure; nothing else changes, and no capture held. */
+    choose({ light, level, dithering = true, exposure } = {}) {
+      const { image, state } = this.#open();
+      upTo(0xff, "the light set", light);
+      upTo(0xff, "the level", level);
+      if (typeof dithering !== "boolean") throw new TypeError(`dithering must be true or false, not ${typeof dithering}`);
+      if (exposure !== undefined) upTo(0xffff, "the exposure", exposure);
+      valueOf(exports.gulxinett_choose(...lent(state), light, level, Number(!dithering), exposure ?? UNNAMED));
+      this.#recorder?.choose(image.bytes, this.#registers(), state.bytes[SELECT_OFFSET]);
     }
 
     /** The first element of the matrix whose values don't rise or stay level; null if there is none. */

@@ -5,6 +5,9 @@ export const ROW_BYTES = 128;
 /** Bytes of the longest line, that of a row, with its LF. */
 export const LINE_BYTES = 261;
 
+/** Whether a choice writes a register: the exposure's two and the matrix. */
+const isChosen = (number) => number === 2 || number === 3 || number >= 6;
+
 /** The rows of an image, in order. */
 const rowsOf = (image) => Array.from({ length: image.length / ROW_BYTES }, (_, row) => image.subarray(row * ROW_BYTES, (row + 1) * ROW_BYTES));
 
@@ -40,6 +43,15 @@ export class Recorder {
   write(image, address, value) {
     if (!this.#imageKnown) this.lend(image, image);
     this.note("write", address, value);
+  }
+
+  /** Notes a choice, which left these registers, as the writes it amounts to: to the registers, and select back. */
+  choose(image, registers, select) {
+    this.write(image, 0x4000, 0x10);
+    registers.forEach((value, number) => {
+      if (isChosen(number)) this.write(image, 0xa000 + number, value);
+    });
+    this.write(image, 0x4000, select);
   }
 
   /** Another image is lent: the rows that changed, and the first time all. */

@@ -32,6 +32,12 @@ PICTURE_OFFSET = 0x100
 #: Bytes of a plate as a Netpbm P5 file: a header of 15, then one for each of 128 by 112 pixels.
 PLATE_BYTES = 14_351
 
+# The exposure that names none.
+_UNNAMED = 0x1_0000
+# Where the registers that a choice writes stand among the 54: exposure, then the matrix.
+_CHOSEN = (2, 3, *range(6, REGISTERS))
+# Where select stands in the state record.
+_SELECT_OFFSET = 2
 # Where the registers stand in the state record.
 _REGISTERS_OFFSET = 8
 # Bytes of a row of the image.
@@ -49,6 +55,7 @@ _SENTENCES = {
     6: "the script line or image row is malformed",
     7: "the room lent for what is written is too short",
     8: "the file is not one that can be read",
+    9: "the light set is above 1 or the level above 15",
 }
 
 # What each function is given: lent memory is a place and a length, a bare place has a length that is settled.
@@ -59,6 +66,7 @@ _FUNCTIONS = {
     "read": _LENT * 3 + (ctypes.c_uint16,),
     "write": _LENT * 4 + (ctypes.c_uint16, ctypes.c_uint8),
     "tick": _LENT * 3 + (ctypes.c_uint32,),
+    "choose": _LENT + (ctypes.c_uint8,) * 3 + (ctypes.c_uint32,),
     "inspect": _LENT,
     "picture": _LENT + (_PLACE, _PLACE),
     "record_reset": _LENT,
@@ -209,6 +217,13 @@ class _Recorder:
             self.lend(image, image)
         self.note("write", address, value)
 
+    def choose(self, image, state):
+        """Notes a choice, which left this state, as the writes it amounts to: to the registers, and select back."""
+        self.write(image, 0x4000, 0x10)
+        for number in _CHOSEN:
+            self.write(image, 0xA000 + number, state[_REGISTERS_OFFSET + number])
+        self.write(image, 0x4000, state[_SELECT_OFFSET])
+
     def lend(self, before, now):
         """Another image is lent: the rows that changed, and the first time all."""
         before, now = bytes(before), bytes(now)
@@ -288,6 +303,18 @@ class Cartridge:
         cycles = _up_to(0xFFFF_FFFF, "the cycles", cycles)
         self._note("tick", cycles)
         return _call("tick", *_lent(self._state, self._ram, self._store), cycles)
+
+    def choose(self, *, light, level, dithering=True, exposure=None):
+        """Writes the matrix of a light set (0 high light, 1 low light) and a level (0 the lowest contrast, 7 the default,
+        15 the highest) and the exposure, 0300h if none is named; nothing else changes, and no capture held."""
+        self._open()
+        light, level = _up_to(0xFF, "the light set", light), _up_to(0xFF, "the level", level)
+        if not isinstance(dithering, bool):
+            raise TypeError("dithering must be True or False, not %s" % type(dithering).__name__)
+        exposure = _UNNAMED if exposure is None else _up_to(0xFFFF, "the exposure", exposure)
+        _call("choose", *_lent(self._state), light, level, not dithering, exposure)
+        if self._recorder:
+            self._recorder.choose(self._image, self._state)
 
     def inspect(self) -> Optional[Element]:
         """The first element of the current matrix whose three values don't rise or stay level, if there is one."""

@@ -102,6 +102,44 @@ class Recording(unittest.TestCase):
         self.assertEqual(whole(cartridge), before)
         self.assertEqual(cartridge.recording(), due)
 
+    def test_choices(self):
+        cartridge = begun(1)
+        cartridge.write(0x4000, 0x05)
+        cartridge.tick(20_000)
+        before = cartridge.save()
+        cartridge.record()
+        cartridge.lend(frame(1))
+        start = len(cartridge.recording())
+        cartridge.choose(light=1, level=7)
+        low, state = b"\x8c\x98\xac", cartridge.save().state
+        self.assertEqual((state[10:12], state[14:17]), (b"\x03\x00", low))
+        kept = [place for place in range(STATE_BYTES) if place not in (10, 11) and not 14 <= place < 62]
+        self.assertEqual([state[place] for place in kept], [before.state[place] for place in kept])
+        self.assertEqual(cartridge.save(), before._replace(state=state))
+        writes = [(0x4000, 0x10)] + [(0xA000 + n, state[8 + n]) for n in (2, 3, *range(6, 54))] + [(0x4000, 0x05)]
+        due = b"".join(b"02%04X%02X\n" % write for write in writes)
+        self.assertEqual(cartridge.recording()[start:], due)
+        for light, level in ((2, 7), (0, 16), (255, 255)):
+            with self.assertRaisesRegex(Refusal, "the light set is above 1 or the level above 15") as refused:
+                cartridge.choose(light=light, level=level)
+            self.assertEqual(refused.exception.number, 9)
+        with self.assertRaisesRegex(TypeError, "the light set must be a whole number"):
+            cartridge.choose(light=None, level=7)
+        with self.assertRaisesRegex(ValueError, "the level must be a whole number from 0 to 255"):
+            cartridge.choose(light=0, level=256)
+        with self.assertRaisesRegex(ValueError, "the exposure must be a whole number from 0 to 65535"):
+            cartridge.choose(light=0, level=0, exposure=65536)
+        with self.assertRaisesRegex(TypeError, "dithering must be True or False"):
+            cartridge.choose(light=0, level=0, dithering=0)
+        self.assertEqual(cartridge.save(), before._replace(state=state))
+        self.assertEqual(cartridge.recording()[start:], due)
+        cartridge.choose(light=1, level=7, dithering=False, exposure=0x1234)
+        plain = cartridge.save().state
+        self.assertEqual((plain[10:12], plain[14:62]), (b"\x12\x34", low * 16))
+        self.assertIsNone(cartridge.inspect())
+        self.assertEqual(cartridge.tick(0xFFFF_FFFF), TOTAL - 20_000)
+        self.assertEqual(cartridge.area(), picture(frame(1), TAKEN))
+
     def test_an_image_that_a_script_does_not_begin_with_is_told_before_a_write(self):
         restored, lent = Cartridge.restore(Cartridge().save()), Cartridge()
         lent.lend(frame(1))
@@ -260,11 +298,11 @@ class BadInput(unittest.TestCase):
         cartridge.close()
         uses = {
             "reset": (), "read": (0,), "write": (0xA000, 0), "tick": (1,), "inspect": (), "lend": (frame(1),), "lend_photo": (b"",),
-            "picture": (), "area": (), "plate": (), "save": (), "record": (), "recording": (),
+            "choose": {"light": 0, "level": 0}, "picture": (), "area": (), "plate": (), "save": (), "record": (), "recording": (),
         }
         for name, words in uses.items():
             with self.assertRaisesRegex(ValueError, "the cartridge is closed"):
-                getattr(cartridge, name)(*words)
+                getattr(cartridge, name)(**words) if isinstance(words, dict) else getattr(cartridge, name)(*words)
         with self.assertRaisesRegex(ValueError, "the cartridge is closed"):
             with cartridge:
                 pass

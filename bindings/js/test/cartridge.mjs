@@ -181,6 +181,46 @@ const rowLines = (image, rows) =>
 
 const everyRow = Array.from({ length: 128 }, (_, row) => row);
 
+/** Choices: the registers they write and nothing else, their writes in a recording, and what are none. */
+function choices() {
+  const cartridge = begin(new Cartridge(), 1);
+  cartridge.write(0x4000, 0x05);
+  cartridge.tick(20_000);
+  const before = cartridge.save();
+  cartridge.record();
+  cartridge.lend(frame(1));
+  const start = cartridge.recording().length;
+  cartridge.choose({ light: 1, level: 7 });
+  const low = [0x8c, 0x98, 0xac];
+  const { state } = cartridge.save();
+  assert.deepEqual([...state.subarray(10, 12), ...state.subarray(14, 17)], [3, 0, ...low]);
+  const written = (place) => place === 10 || place === 11 || (place >= 14 && place < 62);
+  state.forEach((byte, place) => assert.ok(written(place) || byte === before.state[place], `byte ${place}`));
+  assert.deepEqual(cartridge.save(), { ...before, state });
+  const line = (address, value) => `02${address.toString(16).toUpperCase()}${Buffer.from([value]).toString("hex").toUpperCase()}\n`;
+  const register = (number) => line(0xa000 + number, state[8 + number]);
+  const matrix = Array.from({ length: 48 }, (_, place) => register(6 + place)).join("");
+  const due = line(0x4000, 0x10) + register(2) + register(3) + matrix + line(0x4000, 0x05);
+  const recorded = () => Buffer.from(cartridge.recording().subarray(start)).toString();
+  assert.equal(recorded(), due);
+  for (const choice of [{ light: 2, level: 7 }, { light: 0, level: 16 }, { light: 255, level: 255 }]) refused(9, () => cartridge.choose(choice));
+  throws(TypeError, "the light set must be a number", () => cartridge.choose());
+  throws(RangeError, "the level must be a whole number from 0 to 255", () => cartridge.choose({ light: 0, level: 256 }));
+  throws(RangeError, "the exposure must be a whole number from 0 to 65535", () => cartridge.choose({ light: 0, level: 0, exposure: 65536 }));
+  throws(TypeError, "dithering must be true or false", () => cartridge.choose({ light: 0, level: 0, dithering: 0 }));
+  assert.deepEqual(cartridge.save(), { ...before, state });
+  assert.equal(recorded(), due);
+  cartridge.choose({ light: 1, level: 7, dithering: false, exposure: 0x1234 });
+  const plain = cartridge.save().state;
+  assert.deepEqual([...plain.subarray(10, 12)], [0x12, 0x34]);
+  assert.deepEqual([...plain.subarray(14, 62)], Array.from({ length: 16 }, () => low).flat());
+  assert.equal(cartridge.inspect(), null);
+  assert.equal(cartridge.tick(0xffff_ffff), TOTAL - 20_000);
+  assert.deepEqual(cartridge.area(), picture(frame(1), registers));
+  cartridge.close();
+  say("choices: the registers they write, their 52 writes recorded; 7 that are none turned away");
+}
+
 /** The recorder has every call made, refused ones too, and the rows of what is lent; nothing else. */
 function recorder() {
   const cartridge = new Cartridge();
@@ -398,7 +438,7 @@ function closed() {
   const before = [whole(other), whole(next)];
   cartridge.close();
   const uses = {
-    reset: [], read: [0], write: [0xa000, 0], tick: [1], inspect: [], lend: [frame(1)], lendPhoto: [frame(1)], picture: [], area: [], plate: [], save: [],
+    reset: [], read: [0], write: [0xa000, 0], tick: [1], inspect: [], choose: [{ light: 0, level: 0 }], lend: [frame(1)], lendPhoto: [frame(1)], picture: [], area: [], plate: [], save: [],
     record: [], recording: [],
   };
   for (const [name, words] of Object.entries(uses)) throws(Error, "the cartridge is closed", () => cartridge[name](...words));
@@ -414,6 +454,7 @@ await loading();
 calls();
 plates();
 photographs();
+choices();
 recorder();
 sideBySide();
 memory();

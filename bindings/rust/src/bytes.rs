@@ -18,7 +18,7 @@ impl Answer {
     pub fn result(self) -> Result<u32, Refusal> {
         match (self.0 >> 32) as u32 {
             0 => Ok(self.0 as u32),
-            number => Err(Refusal::from_number(number).expect("a refusal is 1 to 8")),
+            number => Err(Refusal::from_number(number).expect("a refusal is 1 to 9")),
         }
     }
 }
@@ -83,6 +83,22 @@ pub fn tick(state: &mut [u8], ram: &mut [u8], store: &[u8], cycles: u32) -> Answ
             store.as_ptr(),
             store.len(),
             cycles,
+        )
+    })
+}
+
+/// Chooses the matrix of a light set and a level, without its dithering unless `plain` is 0, and an exposure, which
+/// is unnamed if it is above FFFF; the value is 0.
+pub fn choose(state: &mut [u8], light: u8, level: u8, plain: u8, exposure: u32) -> Answer {
+    // SAFETY: the pointer and length are those of one slice, borrowed for the call.
+    Answer(unsafe {
+        ffi::gulxinett_choose(
+            state.as_mut_ptr(),
+            state.len(),
+            light,
+            level,
+            plain,
+            exposure,
         )
     })
 }

@@ -2,8 +2,8 @@
 
 use crate::recorder::Recorder;
 use crate::{
-    bytes, inspect, picture, read, reset, tick, write, Element, Refusal, State, FRAME_BYTES,
-    PICTURE_BYTES, PICTURE_OFFSET, PLATE_BYTES, RAM_BANK, ROM_BANK,
+    bytes, choose, inspect, picture, read, reset, tick, write, Choice, Element, Refusal, State,
+    FRAME_BYTES, PICTURE_BYTES, PICTURE_OFFSET, PLATE_BYTES, RAM_BANK, ROM_BANK,
 };
 
 /// State, ROM, RAM, frame store and the image lent. Dropping it is closing it.
@@ -116,6 +116,23 @@ impl Cartridge {
     pub fn tick(&mut self, cycles: u32) -> Result<u32, Refusal> {
         self.note(|recorder| recorder.tick(cycles));
         tick(&mut self.state, &mut self.ram, &self.store, cycles)
+    }
+
+    /// Writes the matrix and the exposure registers as chosen, and nothing else: a capture held goes on
+    /// with the registers of its start. A recorder has it as the bus writes that it amounts to, unless
+    /// it is refused.
+    pub fn choose(&mut self, choice: Choice) -> Result<(), Refusal> {
+        choose(&mut self.state, choice)?;
+        let Cartridge {
+            state,
+            image,
+            recorder,
+            ..
+        } = self;
+        if let Some(recorder) = recorder {
+            recorder.choose(image, state);
+        }
+        Ok(())
     }
 
     /// The first element of the current matrix whose three values don't rise or stay level.

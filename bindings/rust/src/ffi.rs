@@ -36,6 +36,15 @@ extern "C" {
         cycles: u32,
     ) -> u64;
 
+    pub fn gulxinett_choose(
+        state: *mut u8,
+        state_len: usize,
+        light: u8,
+        level: u8,
+        plain: u8,
+        exposure: u32,
+    ) -> u64;
+
     pub fn gulxinett_inspect(state: *const u8, state_len: usize) -> u64;
 
     pub fn gulxinett_picture(

@@ -61,15 +61,17 @@ pub enum Refusal {
     Room = 7,
     /// The file is not one that can be read.
     File = 8,
+    /// The light set of a choice is above 1, or its level above 15.
+    Choice = 9,
 }
 
 impl Refusal {
-    /// The interface's number, 1 to 8.
+    /// The interface's number, 1 to 9.
     pub const fn number(self) -> u8 {
         self as u8
     }
 
-    /// The refusal of a number; none outside 1 to 8.
+    /// The refusal of a number; none outside 1 to 9.
     pub const fn from_number(number: u32) -> Option<Refusal> {
         Some(match number {
             1 => Refusal::State,
@@ -80,6 +82,7 @@ impl Refusal {
             6 => Refusal::Line,
             7 => Refusal::Room,
             8 => Refusal::File,
+            9 => Refusal::Choice,
             _ => return None,
         })
     }
@@ -96,11 +99,28 @@ impl std::fmt::Display for Refusal {
             Refusal::Line => "the script line or image row is malformed",
             Refusal::Room => "the room lent for what is written is too short",
             Refusal::File => "the file is not one that can be read",
+            Refusal::Choice => "the light set is above 1 or the level above 15",
         })
     }
 }
 
 impl std::error::Error for Refusal {}
+
+/// A contrast level that people know, instead of 48 numbers.
+#[derive(Clone, Copy, Debug, PartialEq, Eq)]
+pub struct Choice {
+    /// 0 for high light, 1 for low light.
+    pub light: u8,
+    /// 0 is the lowest contrast, 7 the default, 15 the highest.
+    pub level: u8,
+    /// Off, the upper left three values of the matrix stand for all.
+    pub dithering: bool,
+    /// Exposure steps; unnamed it is 0300h.
+    pub exposure: Option<u16>,
+}
+
+/// The exposure that names none, as the C function takes it.
+const UNNAMED: u32 = 0x1_0000;
 
 /// An element of the 4 by 4 matrix.
 #[derive(Clone, Copy, Debug, PartialEq, Eq)]
@@ -146,6 +166,16 @@ pub fn tick(state: &mut State, ram: &mut [u8], store: &[u8], cycles: u32) -> Res
     let running = bytes::tick(&mut record, ram, store, cycles).result()?;
     state.take(&record);
     Ok(running)
+}
+
+/// Writes the matrix and the exposure registers as chosen, and nothing else.
+pub fn choose(state: &mut State, choice: Choice) -> Result<(), Refusal> {
+    let mut record = state.encode();
+    let plain = u8::from(!choice.dithering);
+    let exposure = choice.exposure.map_or(UNNAMED, u32::from);
+    bytes::choose(&mut record, choice.light, choice.level, plain, exposure).result()?;
+    state.take(&record);
+    Ok(())
 }
 
 /// The first element of the current matrix, by rows and then columns, whose three values don't

@@ -1,7 +1,7 @@
 //! What was done to a cartridge, as the lines of a bus script.
 
 use crate::bytes::{self, Answer};
-use crate::{LINE_BYTES, ROW_BYTES};
+use crate::{State, LINE_BYTES, REGISTERS, ROW_BYTES};
 
 /// The lines so far, and what they tell of the image.
 #[derive(Clone, Debug, PartialEq, Eq)]
@@ -41,6 +41,16 @@ impl Recorder {
             self.lend(&[], image);
         }
         self.append(|out| bytes::record_write(address, value, out));
+    }
+
+    /// A choice, which left this state, has no line of its own: select to the registers, the registers
+    /// that it wrote, select back.
+    pub fn choose(&mut self, image: &[u8], state: &State) {
+        self.write(image, 0x4000, 0x10);
+        for number in [2, 3].into_iter().chain(6..REGISTERS) {
+            self.write(image, 0xA000 + number as u16, state.registers[number]);
+        }
+        self.write(image, 0x4000, state.ram_select);
     }
 
     pub fn tick(&mut self, cycles: u32) {

@@ -1,8 +1,8 @@
 //! The owner of a cartridge's memory: a save picked up by another, and what bad input gets.
 
 use gulxinett::{
-    bytes, picture, Cartridge, Element, Refusal, Save, FRAME_BYTES, PICTURE_BYTES, PLATE_BYTES,
-    RAM_BANK, REGISTERS, ROM_BANK, STATE_BYTES,
+    bytes, picture, Cartridge, Choice, Element, Refusal, Save, FRAME_BYTES, PICTURE_BYTES,
+    PLATE_BYTES, RAM_BANK, REGISTERS, ROM_BANK, STATE_BYTES,
 };
 
 const TOTAL: u32 = 32_958 + 16 * 0x80;
@@ -106,6 +106,60 @@ fn exports_that_are_refused() {
 
 fn export(ram: &[u8], out: &mut [u8]) -> Result<u32, Refusal> {
     bytes::export(ram, out).result()
+}
+
+#[test]
+fn choices_write_their_registers_alone() {
+    let mut cartridge = half_way();
+    cartridge.write(0x4000, 5).unwrap();
+    let before = *cartridge.state();
+    let (area, store) = (cartridge.area().to_vec(), cartridge.save().store);
+    cartridge.record();
+    cartridge.lend(&frame()).unwrap();
+    let start = cartridge.recording().len();
+    let low = Choice {
+        light: 1,
+        level: 7,
+        dithering: true,
+        exposure: None,
+    };
+    cartridge.choose(low).unwrap();
+    let mut due = before;
+    due.registers = cartridge.state().registers;
+    assert_eq!(*cartridge.state(), due);
+    assert_eq!(due.registers[..2], before.registers[..2]);
+    assert_eq!(due.registers[2..4], [3, 0]);
+    assert_eq!(due.registers[4..6], before.registers[4..6]);
+    assert_eq!(due.registers[6..9], [0x8C, 0x98, 0xAC]);
+    assert!(cartridge.area() == area && cartridge.save().store == store);
+    let register = |n: usize| format!("02A0{n:02X}{:02X}\n", due.registers[n]);
+    let lines: String = [2, 3].into_iter().chain(6..54).map(register).collect();
+    let script = format!("02400010\n{lines}02400005\n");
+    assert!(cartridge.recording()[start..] == *script.as_bytes());
+    let recorded = cartridge.clone();
+    for (light, level) in [(2, 7), (0, 16), (255, 255)] {
+        let none = Choice {
+            light,
+            level,
+            ..low
+        };
+        assert_eq!(cartridge.choose(none), Err(Refusal::Choice));
+    }
+    assert!(cartridge == recorded);
+    let plain = Choice {
+        dithering: false,
+        exposure: Some(0x1234),
+        ..low
+    };
+    cartridge.choose(plain).unwrap();
+    let chosen = cartridge.state().registers;
+    assert_eq!(chosen[2..4], [0x12, 0x34]);
+    assert!(chosen[6..]
+        .chunks(3)
+        .all(|three| three == [0x8C, 0x98, 0xAC]));
+    assert_eq!(cartridge.inspect(), Ok(None));
+    assert_eq!(cartridge.tick(u32::MAX), Ok(TOTAL - TOTAL / 2));
+    assert!(cartridge.area() == picture(&frame(), &registers()).unwrap());
 }
 
 #[test]
