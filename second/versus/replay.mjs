@@ -145,6 +145,10 @@ function kinds(steps, memories, exports) {
       return ["export", () => exports.gulxinett_export(...lent("ram", "out"))];
     },
     () => ["import", () => exports.gulxinett_import_photo(...lent("file", "image"))],
+    () => {
+      const words = [steps.byte(), steps.byte(), steps.byte(), steps.word()];
+      return [`choose ${words}`, () => exports.gulxinett_choose(...lent("state"), ...words)];
+    },
   ];
 }
 

@@ -8,6 +8,8 @@ pub trait Machine {
     fn read(&mut self, address: u16) -> u8;
     fn write(&mut self, address: u16, value: u8);
     fn tick(&mut self, cycles: u32) -> u32;
+    /// Chooses a level in low light, with dithering and no exposure named.
+    fn choose(&mut self, level: u8);
 }
 
 /// What every machine is lent: one bank of ROM and RAM, and an image with some of every light.
@@ -63,6 +65,16 @@ impl Machine for Archive {
         let Memory { ram, store, .. } = &mut self.memory;
         gulxinett::tick(&mut self.state, ram, store, cycles).expect("a tick is not refused")
     }
+
+    fn choose(&mut self, level: u8) {
+        let choice = gulxinett::Choice {
+            light: 1,
+            level,
+            dithering: true,
+            exposure: None,
+        };
+        gulxinett::choose(&mut self.state, choice).expect("a choice is not refused");
+    }
 }
 
 /// The second program's controller, called as it is.
@@ -97,6 +109,10 @@ impl Machine for Direct {
     fn tick(&mut self, cycles: u32) -> u32 {
         let Memory { ram, store, .. } = &mut self.memory;
         second::tick(&mut self.state, ram, store, cycles).expect("a tick is not refused")
+    }
+
+    fn choose(&mut self, level: u8) {
+        second::choose(&mut self.state, 1, level, false, None).expect("a choice is not refused");
     }
 }
 
@@ -149,5 +165,9 @@ impl Machine for Bytes {
 
     fn tick(&mut self, cycles: u32) -> u32 {
         self.over_bytes(|direct| direct.tick(cycles))
+    }
+
+    fn choose(&mut self, level: u8) {
+        self.over_bytes(|direct| direct.choose(level));
     }
 }

@@ -95,6 +95,9 @@ impl Bench {
         self.measure("idle tick of 2^32 - 1", 0, |machine, runs| {
             repeat(runs, |_| machine.tick(black_box(u32::MAX)))
         });
+        self.measure("choice of a level", 0, |machine, runs| {
+            repeat(runs, |run| machine.choose(run as u8 % 16))
+        });
         self.measure("read of RAM", 0, |machine, runs| {
             machine.write(0x4000, 0);
             repeat(runs, |run| machine.read(0xA000 + run as u16 % 0x2000))

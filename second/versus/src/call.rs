@@ -41,6 +41,13 @@ pub enum Call {
     Export {
         room: usize,
     },
+    /// A light set and a level, without dithering unless plain is 0, and an exposure, none above FFFF.
+    Choose {
+        light: u8,
+        level: u8,
+        plain: u8,
+        exposure: u32,
+    },
     /// The file lent, read into the image.
     Import,
     /// Another image is lent from here on.
@@ -91,6 +98,15 @@ impl fmt::Display for Call {
             }
             Call::Record { frame, room } => write!(f, "{frame:?} recorded in {room} bytes"),
             Call::Export { room } => write!(f, "export in {room} bytes"),
+            Call::Choose {
+                light,
+                level,
+                plain,
+                exposure,
+            } => write!(
+                f,
+                "choose light set {light}, level {level}, plain {plain}, exposure {exposure:X}h"
+            ),
             Call::Import => write!(f, "import of the file lent"),
             Call::Image { kind, seed } => write!(f, "image of kind {kind}, seed {seed}"),
             Call::File { seed } => write!(f, "file of seed {seed}"),

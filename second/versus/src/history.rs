@@ -5,7 +5,7 @@ use crate::call::{Call, Lent};
 use crate::lines;
 use crate::random::Random;
 use crate::sides::{Beginning, Pair};
-use crate::sweep::export_room;
+use crate::sweep::{export_room, EXPOSURES};
 use second::{State, Timing};
 use std::collections::VecDeque;
 
@@ -130,7 +130,8 @@ impl<'a> History<'a> {
                 13..=14 => return Call::Reset,
                 15..=17 => return self.picture(),
                 18..=30 => return self.image(),
-                31..=61 => return Call::Inspect,
+                31..=57 => return Call::Inspect,
+                58..=61 => return self.choose(),
                 62..=65 => self.plan_photo(),
                 66..=70 => {
                     return Call::Export {
@@ -244,6 +245,16 @@ impl<'a> History<'a> {
         Call::Picture {
             of,
             registers: Box::new(registers),
+        }
+    }
+
+    /// A choice, which may be none.
+    fn choose(&mut self) -> Call {
+        Call::Choose {
+            light: self.random.below(3) as u8,
+            level: self.random.below(17) as u8,
+            plain: self.random.pick(&[0, 0, 1, 255]),
+            exposure: self.random.pick(&EXPOSURES),
         }
     }
 

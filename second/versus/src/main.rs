@@ -114,6 +114,9 @@ fn compare(calls: u64, seed: u64, answers: Option<Answers>) -> Option<Option<Ans
         tally.compared - before
     );
     let before = tally.compared;
+    sweep::choices(&mut tally);
+    println!("choices: {} calls compared", tally.compared - before);
+    let before = tally.compared;
     let read = photos::compare(&mut tally, &mut random);
     println!(
         "photographs: {} calls compared, {read} of them of files that are read",

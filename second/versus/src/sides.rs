@@ -106,6 +106,12 @@ impl Side {
             }
             Call::Tick { cycles } => bytes::tick(state, ram, store, *cycles),
             Call::Inspect => bytes::inspect(state),
+            Call::Choose {
+                light,
+                level,
+                plain,
+                exposure,
+            } => bytes::choose(state, *light, *level, *plain, *exposure),
             Call::Picture { of, registers } => {
                 let frame = if *of == Lent::Image { image } else { store };
                 picture.fill(UNDRAWN);
@@ -153,6 +159,15 @@ impl Side {
             Call::Inspect => second::inspect(&state).map(|element| {
                 element.map_or(0, |e| 0x100 + 16 * u32::from(e.row) + u32::from(e.column))
             }),
+            Call::Choose {
+                light,
+                level,
+                plain,
+                exposure,
+            } => {
+                let named = u16::try_from(*exposure).ok();
+                second::choose(&mut state, *light, *level, *plain != 0, named).map(|()| 0)
+            }
             _ => Ok(0),
         };
         self.state.copy_from_slice(&state.to_bytes());

@@ -182,6 +182,19 @@ const ADDRESSES: [Choice<u16>; 9] = [
     (0xFFFF, true),
 ];
 
+/// Exposures at the edges of what is named, and above it.
+pub const EXPOSURES: [u32; 9] = [
+    0,
+    1,
+    0xFF,
+    0x300,
+    0x1234,
+    0xFFFF,
+    0x1_0000,
+    0x1_0300,
+    u32::MAX,
+];
+
 /// The lowest refusal that is due.
 pub fn lowest(reasons: &[(u64, bool)]) -> Option<u64> {
     reasons
@@ -337,6 +350,40 @@ pub fn lines(tally: &mut Tally, random: &mut Random) {
             }
         }
     }
+}
+
+/// Every light set and level there is, and some that are none, on records that can exist and that can't.
+pub fn choices(tally: &mut Tally) {
+    let mut side = Pair::new(&Beginning {
+        rom_banks: 0,
+        ram_banks: 0,
+        seed: 7,
+    })
+    .archive;
+    (side.store, side.image) = (Vec::new(), Vec::new());
+    for (state, no_state) in records() {
+        side.state = state;
+        for (light, level) in every_level() {
+            for plain in [0, 1, 2, 255] {
+                for exposure in EXPOSURES {
+                    let call = Call::Choose {
+                        light,
+                        level,
+                        plain,
+                        exposure,
+                    };
+                    let due = lowest(&[(1, no_state), (9, light > 1 || level > 15)]);
+                    tally.compare(&side, &call, due);
+                }
+            }
+        }
+    }
+}
+
+/// Light sets and levels up to a few that are none.
+fn every_level() -> impl Iterator<Item = (u8, u8)> {
+    let levels = (0..=20).chain([127, 128, 255]);
+    levels.flat_map(|level| [0, 1, 2, 3, 128, 255].map(|light| (light, level)))
 }
 
 /// Random RAM of every count of banks, and of lengths that are none, as files in buffers long enough
