@@ -58,6 +58,7 @@ static void everything(void)
         write_byte(0x4000, 0);
         gulxinett_read(state, sizeof state, rom, sizeof rom, ram, sizeof ram, 0xA100);
         gulxinett_read(state, sizeof state, rom, sizeof rom, ram, sizeof ram, 0x0000);
+        gulxinett_choose(state, sizeof state, mode & 1, (uint8_t)mode, mode & 2, GULXINETT_UNNAMED);
         record();
         gulxinett_export(ram, sizeof ram, plate, sizeof plate);
         gulxinett_import_photo(photograph, sizeof photograph, image, sizeof image);

@@ -19,6 +19,7 @@ for (let mode = 0; mode < 16; mode++) {
   for (let few = 0; few < 100; few++) cartridge.tick(401);
   cartridge.tick(0xffffffff);
   cartridge.inspect();
+  cartridge.choose(mode);
   cartridge.picture();
   cartridge.record();
   cartridge.export();

@@ -42,6 +42,7 @@ export function lend(path) {
     write: (address, byte) =>
       value(call.gulxinett_write(...lent("state", "ram", "store", "image"), address, byte)),
     tick: (cycles) => value(call.gulxinett_tick(...lent("state", "ram", "store"), cycles)),
+    choose: (level) => value(call.gulxinett_choose(...lent("state"), 1, level, 0, 0x10000)),
     inspect: () => value(call.gulxinett_inspect(...lent("state"))),
     picture: () => value(call.gulxinett_picture(...lent("image"), at.registers, at.picture)),
     export: () => value(call.gulxinett_export(...lent("ram", "plate"))),
