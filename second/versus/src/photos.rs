@@ -167,13 +167,21 @@ impl Photos<'_> {
         }
     }
 
-    /// Images of other lengths: 4 comes before 8.
+    /// Images of other lengths: 4 comes before 8, whatever is wrong with the file.
     fn images(&mut self, random: &mut Random) {
         let good = self.side.image.clone();
         for (length, no_image) in FRAMES {
-            for (header, no_file) in [(HEADERS[0], false), (BAD[0], true), (BAD[2], true)] {
+            for (header, pixels, no_file) in [
+                (HEADERS[0], PIXELS, false),
+                (HEADERS[0], PIXELS - 1, true),
+                (HEADERS[0], PIXELS + 1, true),
+                (HEADERS[0], 2 * PIXELS, true),
+                (BAD[0], 0, true),
+                (BAD[0], PIXELS, true),
+                (BAD[2], PIXELS, true),
+            ] {
                 self.side.image.resize(length, 0x3C);
-                self.side.file = file(header, PIXELS, random);
+                self.side.file = file(header, pixels, random);
                 self.import(lowest(&[(4, no_image), (8, no_file)]));
             }
         }
