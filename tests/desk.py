@@ -1,9 +1,10 @@
-"""What choices write, held to document 001's text, and the choices of examples/desk.json by their names.
+"""What choices write, held to document 001's text, and the choices of examples/desk.json, which are the crate's, by their names.
 
 usage: python3 desk.py BUS; BUS is the program that plays recordings
 """
 
 import json
+import re
 import subprocess
 import sys
 from pathlib import Path
@@ -73,10 +74,18 @@ def photographed(choice):
     return registers, area, cartridge.recording()
 
 
+def defined():
+    """The choices as the crate defines them: a line that names one, and its level and whether it is plain below."""
+    text = Path(ROOT, "crates/desk/specs/Stored.antt").read_text(encoding="utf-8")
+    found = re.findall(r"^-- (.*, bright table):.*\n.*\n\w+ = brightTable (\d+) (true|false)$", text, re.MULTILINE)
+    return {name: {"light": 0, "level": int(level), "dithering": plain == "false"} for name, level, plain in found}
+
+
 def by_name(matrices, bus):
     plates = set()
-    for name, choice in json.loads(Path(ROOT, "examples/desk.json").read_text(encoding="utf-8")).items():
-        ensure("exposure" not in choice, "%s names an exposure" % name)
+    choices = json.loads(Path(ROOT, "examples/desk.json").read_text(encoding="utf-8"))
+    ensure(choices == defined(), "examples/desk.json has other choices than crates/desk defines")
+    for name, choice in choices.items():
         registers, area, script = photographed(choice)
         matrix = chosen(matrices[2 * choice["level"] + choice["light"]], choice["dithering"])
         ensure(registers == b"\0\0" + UNNAMED + b"\0\0" + matrix, "%s writes other registers than its choice" % name)
