@@ -8,8 +8,9 @@ use lib.Dec.{eqb, leb, ltb}
 use lib.ListN.{getD, set}
 use borrow.Author.Tests.{leb-false, ltb-false, lt-leb, le-ltb, ne-eqb, not-false}
 use Rattle.controller.specs.declared.Controller.{Controller}
-use Rattle.controller.specs.Timing.{totalOf}
-use Rattle.controller.specs.State.{started, zeroTo, leftOver, wrongCapture, cantExist}
+use Rattle.timing.specs.Registers.{zeroTo}
+use Rattle.timing.specs.Timing.{totalOf}
+use Rattle.controller.specs.State.{started, leftOver, wrongCapture, cantExist}
 use Rattle.controller.specs.Capture.{moved, ended}
 
 -- neither of two tests

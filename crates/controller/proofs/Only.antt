@@ -4,7 +4,7 @@ use mathlib.Core.Bool.{Bool, true, false}
 use mathlib.Core.List.{List}
 use Prim.Native.Nat.{ℕ, zero, suc}
 use native.Mathlib.Omega.{arith}
-use Rattle.controller.specs.declared.Cycles.{Cycles}
+use Rattle.timing.specs.declared.Cycles.{Cycles}
 use Rattle.controller.specs.declared.Refusal.{Refusal}
 use Rattle.controller.specs.declared.Refusal.the-variants.{State, Rom, Ram, Frame, Address, Line, Room, File, Choice}
 use Rattle.controller.specs.declared.ReadAnswer.{ReadAnswer}

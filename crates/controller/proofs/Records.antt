@@ -1,27 +1,13 @@
 -- Which records can exist: what each test of the code comes to in the definition. Assumes nothing.
 use mathlib.Core.Path.{_≡_, refl, sym, ap, _∙_}
-use mathlib.Core.Bool.{Bool, true, false, not, _&&_, _||_, and-false, and-true, or-false}
-use mathlib.Core.List.{List}
-use Prim.Native.Nat.{ℕ, zero, suc, _+_, _%_, _<_, _≤_}
-use native.Mathlib.Nat.{add-zero}
+use mathlib.Core.Bool.{Bool, true, false, not, _&&_, _||_, and-false, or-false}
+use Prim.Native.Nat.{ℕ, zero, suc, _%_, _<_, _≤_}
 use native.Mathlib.Omega.{arith}
 use lib.Dec.{eqb, ltb, leb}
-use lib.ListN.{getD}
 use borrow.Author.Tests.{eq-eqb, ne-eqb, lt-ltb, le-ltb, lt-leb, le-leb, not-true, not-false}
-use Rattle.laws.specs.Sums.{sumOf}
 use Rattle.laws.proofs.Order.{split}
-use Rattle.controller.specs.State.{zeroTo, started, leftOver, wrongCapture}
+use Rattle.controller.specs.State.{started, leftOver, wrongCapture}
 use Rattle.controller.specs.declared.Controller.{Controller}
-
-one-more : (n : ℕ) (b : Bool) (x : ℕ) → eqb n 0 ≡ b → eqb (n + x) 0 ≡ (b && eqb x 0)
-one-more n b zero e = rw add-zero (e ∙ sym (and-true b))
-one-more n b (suc x) e = ne-eqb (n + suc x) 0 (λ q. omega arith) ∙ sym (ap (λ t. b && t) (ne-eqb (suc x) 0 (λ q. omega arith)) ∙ and-false b)
-
--- a sum is 0 exactly where each number is
-pub sum-zero : (s : List ℕ) (n : ℕ) → eqb (sumOf s n) 0 ≡ zeroTo s n
-unfolding zeroTo sumOf
-sum-zero s zero = refl
-sum-zero s (suc n) = one-more (sumOf s n) (zeroTo s n) (getD s n 0) (sum-zero s n)
 
 -- one test or the other: `<` is `not ≥`
 pub not-leb : (a b : ℕ) → ltb a b ≡ not (leb b a)

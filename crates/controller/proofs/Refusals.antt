@@ -18,7 +18,7 @@ use Rattle.controller.specs.declared.Controller.{Controller}
 use Rattle.controller.specs.declared.Refusal.{Refusal}
 use Rattle.controller.specs.declared.Verdict.{Verdict}
 use Rattle.controller.specs.declared.Verdict.the-variants as verdicts
-use Rattle.controller.specs.Lent.{romAllowed, ramAllowed, frameAllowed}
+use Rattle.timing.specs.Lent.{romAllowed, ramAllowed, frameAllowed}
 use Rattle.controller.specs.State.{cantExist}
 use Rattle.controller.specs.Outcome.{Outcome, Inspection, numberOf, verdictNumber}
 use Rattle.controller.specs.Bus.{onCartridge, byteWritten}

@@ -10,11 +10,11 @@ use Rattle.laws.specs.Pick.{pick}
 use Rattle.laws.specs.Iter.{iter, iter-add, iter-maps, iter-keeps}
 use Rattle.laws.proofs.Order.{split}
 use Rattle.controller.specs.declared.Controller.{Controller}
-use Rattle.controller.specs.Timing.{totalOf}
+use Rattle.timing.specs.Timing.{totalOf, putPixel, writtenAt}
 use Rattle.controller.specs.State.{cantExist, started}
-use Rattle.controller.specs.Lent.{ramAllowed, frameAllowed}
+use Rattle.timing.specs.Lent.{ramAllowed, frameAllowed}
 use Rattle.controller.specs.Outcome.{Outcome, outcome}
-use Rattle.controller.specs.Capture.{Ticking, putPixel, writtenAt, moved, ended, running, runs, cycle, ticks, from}
+use Rattle.controller.specs.Capture.{Ticking, moved, ended, running, runs, cycle, ticks, from}
 use Rattle.controller.specs.Calls.{tickRows, tickMeans, ticked}
 use Rattle.laws.proofs.Bools.{both-left}
 use Rattle.controller.proofs.Exists.{before-total, exists-moved, exists-ended}

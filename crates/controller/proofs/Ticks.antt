@@ -10,15 +10,15 @@ use lib.Dec.{eqb}
 use borrow.Author.Tests.{eq-eqb, ne-eqb}
 use Rattle.laws.specs.Iter.{iter, iter-fixed, iter-form, iter-phase}
 use Rattle.controller.specs.declared.Controller.{Controller}
-use Rattle.controller.specs.Timing.{totalOf}
+use Rattle.timing.specs.Timing.{totalOf, writtenAt}
 use Rattle.controller.specs.State.{started}
-use Rattle.controller.specs.Capture.{Ticking, writtenAt, moved, ended, running, runs, cycle, ticks, from}
+use Rattle.controller.specs.Capture.{Ticking, moved, ended, running, runs, cycle, ticks, from}
 use Rattle.controller.specs.Outcome.{outcome}
 use Rattle.controller.specs.Calls.{ticked}
 use Rattle.tiles.specs.Bulk.{pixels}
-use Rattle.controller.specs.Bulk.{doneBy}
+use Rattle.timing.specs.Bulk.{doneBy}
 use Rattle.tiles.proofs.Run.{pixels-none}
-use Rattle.controller.proofs.Range.{pixels-step, done-mono, done-all}
+use Rattle.timing.proofs.Range.{pixels-step, done-mono, done-all}
 
 -- ---- idle cycles
 

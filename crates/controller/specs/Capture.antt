@@ -1,34 +1,14 @@
 -- Starting, stopping, ending: a capture, cycle by cycle. Assumes nothing.
 use mathlib.Core.Bool.{Bool, true, false, _&&_}
 use mathlib.Core.List.{List}
-use Prim.Native.Nat.{ℕ, _+_, _-_, _*_, _/_, _%_}
-use lib.Dec.{eqb, leb, ltb}
+use Prim.Native.Nat.{ℕ, _+_, _*_, _/_}
+use lib.Dec.{eqb}
 use lib.ListN.{getD, set}
 use Rattle.laws.specs.Pick.{pick}
 use Rattle.laws.specs.Iter.{iter}
-use Rattle.sensor.specs.Shade.{shadeAt}
 use Rattle.controller.specs.declared.Controller.{Controller}
-use Rattle.controller.specs.Timing.{totalOf, rowsRead, firstRow, due, candidate}
+use Rattle.timing.specs.Timing.{totalOf, writtenAt}
 use Rattle.controller.specs.State.{started, noRegisters}
-use Rattle.tiles.specs.Tiles.{putAt}
-
--- the sensor row of pixel k
-abbrev pub rowOf : List ℕ → ℕ → ℕ
-rowOf regs k = firstRow regs + k / 128
-
--- Picture row y is sensor row y + 8, y from 0 to 111; other rows write nothing
-unfoldable pub putPixel : List ℕ → List ℕ → ℕ → List ℕ → List ℕ
-putPixel frame regs k ram =
-    pick (leb 8 (rowOf regs k) && ltb (rowOf regs k) 120)
-    (putAt ram (k % 128) (rowOf regs k - 8) (shadeAt frame regs (k % 128) (rowOf regs k)))
-    ram
-
--- what cycle number e of a capture writes: pixel k where it is due, with k running over the rows that are read
-unfoldable pub writtenAt : List ℕ → List ℕ → ℕ → List ℕ → List ℕ
-writtenAt frame regs e ram =
-    pick (due regs (candidate regs e) e && ltb (candidate regs e) (128 * rowsRead regs))
-    (putPixel frame regs (candidate regs e) ram)
-    ram
 
 -- A start: registers 1 to 53 and the new register 0 are taken; elapsed is 0
 unfoldable pub begun : Controller → ℕ → Controller

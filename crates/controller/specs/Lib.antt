@@ -1,6 +1,4 @@
 -- The meaning of the controller, in the paper's order.
-pub mod Lent
-pub mod Timing
 pub mod State
 pub mod Outcome
 pub mod Capture
@@ -8,5 +6,4 @@ pub mod Bus
 pub mod Table
 pub mod Calls
 pub mod Picture
-pub mod Bulk
 pub mod Inspect

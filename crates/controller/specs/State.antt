@@ -1,24 +1,16 @@
 -- The state record: which can't exist, and the reset state. Assumes nothing.
 use mathlib.Core.Bool.{Bool, true, false, not, _&&_, _||_}
 use mathlib.Core.List.{List}
-use Prim.Native.Nat.{ℕ, zero, suc, _%_}
+use Prim.Native.Nat.{ℕ, _%_}
 use lib.Dec.{eqb, leb, ltb}
 use lib.ListN.{getD, replicate}
 use Rattle.controller.specs.declared.Controller.{Controller}
-use Rattle.controller.specs.Timing.{totalOf}
+use Rattle.timing.specs.Registers.{allZero}
+use Rattle.timing.specs.Timing.{totalOf}
 
 -- register 0 has bit 0 set
 abbrev pub started : List ℕ → Bool
 started regs = eqb (getD regs 0 0 % 2) 1
-
--- each of the first n registers is 0
-unfoldable pub zeroTo : List ℕ → ℕ → Bool
-zeroTo regs zero = true
-zeroTo regs (suc n) = zeroTo regs n && eqb (getD regs n 0) 0
-
--- each of the 54 registers is 0
-abbrev pub allZero : List ℕ → Bool
-allZero regs = zeroTo regs 54
 
 -- no capture is held and the elapsed cycles or any taken register is not 0
 unfoldable pub leftOver : Controller → Bool

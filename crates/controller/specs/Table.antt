@@ -7,7 +7,7 @@ use Rattle.laws.specs.Pick.{pick}
 use Rattle.controller.specs.declared.Controller.{Controller}
 use Rattle.controller.specs.declared.Refusal.{Refusal}
 use Rattle.controller.specs.declared.Refusal.the-variants.{State, Rom, Ram, Frame, Address, Room}
-use Rattle.controller.specs.Lent.{romAllowed, ramAllowed, frameAllowed}
+use Rattle.timing.specs.Lent.{romAllowed, ramAllowed, frameAllowed}
 use Rattle.controller.specs.State.{cantExist}
 use Rattle.controller.specs.Outcome.{numberOf}
 use Rattle.controller.specs.Bus.{onCartridge}

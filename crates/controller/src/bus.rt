@@ -1,6 +1,5 @@
 // Bus rules: what a read gives and what a write does.
 use super::Controller;
-use super::Cycles;
 use super::ReadAnswer;
 use super::ReadDone;
 use super::Verdict;
@@ -10,38 +9,21 @@ use super::judge::no_frame;
 use super::judge::no_place;
 use super::judge::no_ram;
 use super::judge::no_rom;
+use timing::Cycles;
+use timing::bank_place;
+use timing::copy_frame;
 ghost use mathlib.Core.Path.{_≡_};
 ghost use mathlib.Core.Bool.{Bool, true, false};
 ghost use mathlib.Core.List.{List};
 ghost use Prim.Native.Nat.{ℕ, _+_, _*_, _/_, _%_, _<_, _≤_};
 ghost use lib.ListN.{length, getD, set};
-ghost use Rattle.controller.specs.Lent.{romAllowed, ramAllowed};
+ghost use Rattle.timing.specs.Lent.{romAllowed, ramAllowed};
 ghost use Rattle.controller.specs.State.{started};
 ghost use Rattle.controller.specs.Outcome.{verdictNumber, readOutcome, writeOutcome};
 ghost use Rattle.controller.specs.Bus.{registersOn, registerRead, ramRead, romRead, byteRead, enable, controlWritten, isStart, captureWritten, registerWritten, storeWritten, ramWritten, byteWritten, Left, left};
 ghost use Rattle.controller.specs.Capture.{begun};
 ghost use Rattle.controller.specs.Table.{lowest};
 ghost use Rattle.controller.specs.Calls.{readRows, readMeans, writeRows, writeMeans};
-
-// The bank of a number in so many bytes of banks of a size: taken modulo their count.
-fn bank_place(number: u8, len: usize, size: usize) -> usize
-    requires { ⌜ (0 < size) × (0 < len / size) × (len < 2000000) ⌝ }
-    ensures { λ r. ⌜ r ≡ number % (len / size) * size ⌝ }
-{
-    number as usize % (len / size) * size
-}
-
-// Copies the image to the frame store.
-fn copy_frame(store: &mut [u8], image: &[u8])
-    requires { ⌜ length (now store) ≡ length (now image) ⌝ }
-    ensures { λ _. ⌜ now (store .exit) ≡ now (image .entry) ⌝ }
-{
-    let mut i = 0;
-    while i < image.len() {
-        store[i] = image[i];
-        i += 1;
-    }
-}
 
 impl Controller {
     // Bit 4 of select selects the registers.

@@ -1,73 +1,23 @@
-// Captures: which of the picture's pixels fall into a tick, and what a tick does.
-use super::Clocks;
+// Captures: what a tick does.
 use super::Controller;
-use super::Cycles;
 use super::TickAnswer;
 use super::TickDone;
 use super::Verdict;
 use super::judge::no_frame;
 use super::judge::no_ram;
-use super::state::exposure;
-use super::state::total;
-use sensor::Setting;
+use timing::Cycles;
+use timing::total;
+use timing::write_between;
 ghost use mathlib.Core.Path.{_≡_};
 ghost use mathlib.Core.Bool.{Bool, true, false};
 ghost use mathlib.Core.List.{List};
-ghost use Prim.Native.Nat.{ℕ, _+_, _-_, _*_, _/_, _%_, _<_, _≤_, min};
+ghost use Prim.Native.Nat.{ℕ, _+_, _*_, _/_, _%_, _<_, _≤_};
 ghost use lib.ListN.{length, getD};
-ghost use Rattle.controller.specs.Timing.{clocks, totalOf};
-ghost use Rattle.tiles.specs.Bulk.{pixels};
-ghost use Rattle.controller.specs.Bulk.{pictureFrom, doneBy};
+ghost use Rattle.timing.specs.Timing.{totalOf};
 ghost use Rattle.controller.specs.Capture.{moved, ended, running, ticks, from};
 ghost use Rattle.controller.specs.Outcome.{verdictNumber, outcome, tickOutcome};
 ghost use Rattle.controller.specs.Table.{lowest};
 ghost use Rattle.controller.specs.Calls.{ticked, tickRows, tickMeans};
-
-impl Cycles {
-    // Two cycles make one clock: the only place where cycles become clocks.
-    pub fn clocks(self) -> Clocks
-        ensures { λ r. ⌜ r .0 ≡ clocks (self .0) ⌝ }
-    {
-        Clocks(self.0 / 2)
-    }
-}
-
-// The clock after which the picture's pixels begin: row 8 of the sensor, the seventh or the eighth after the first that is read.
-fn picture_from(regs: &[u8; 54]) -> Clocks
-    ensures { λ r. ⌜ (r .0 ≡ pictureFrom (now (regs .entry))) × (r .0 < 1000000) ⌝ }
-{
-    let reading = Controller::READING + 8 * exposure(regs);
-    if regs[1] / 128 % 2 == 1 {
-        return Clocks(reading + 7 * 128);
-    }
-    Clocks(reading + 8 * 128)
-}
-
-// How many of the picture's pixels are done after so many cycles, where they begin after clock `first`.
-fn done_by(first: Clocks, elapsed: Cycles) -> usize
-    ensures { λ r. ⌜ (r ≡ min (clocks (elapsed .0) - first .0) 14336) × (r ≤ 14336) ⌝ }
-{
-    let now = elapsed.clocks();
-    if now.0 < first.0 {
-        return 0;
-    }
-    let done = (now.0 - first.0) as usize;
-    if done < tiles::PIXELS {
-        return done;
-    }
-    tiles::PIXELS
-}
-
-// Writes what falls between two numbers of elapsed cycles of a capture.
-fn write_between(ram: &mut [u8], store: &[u8], regs: &[u8; 54], elapsed: Cycles, then: Cycles)
-    requires { ⌜ (elapsed .0 ≤ then .0) × (8192 ≤ length (now ram)) × (length (now store) ≡ 16384) ⌝ }
-    ensures { λ _. ⌜ now (ram .exit) ≡ pixels (now (store .entry)) (now (regs .entry)) (doneBy (now (regs .entry)) (elapsed .0)) (doneBy (now (regs .entry)) (then .0)) (now (ram .entry)) ⌝ }
-{
-    let first = picture_from(regs);
-    let from = done_by(first, elapsed);
-    let to = done_by(first, then);
-    tiles::put_pixels(ram, store, Setting::of(regs), regs, from, to);
-}
 
 // A byte with its bit 0 clear.
 fn even(b: u8) -> u8
@@ -78,7 +28,7 @@ fn even(b: u8) -> u8
 
 impl Controller {
     // Clocks before reading begins, at exposure 0.
-    pub const READING: u32 = 92;
+    pub const READING: u32 = timing::READING;
 
     // The state at a number of elapsed cycles.
     fn moved_to(mut self, elapsed: Cycles) -> Controller

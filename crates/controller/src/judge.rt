@@ -2,8 +2,8 @@
 use super::Controller;
 use super::Refusal;
 use super::Verdict;
-use super::state::ram_allowed;
-use super::state::rom_allowed;
+use timing::ram_allowed;
+use timing::rom_allowed;
 ghost use mathlib.Core.Path.{_≡_};
 ghost use mathlib.Core.Bool.{Bool, not};
 ghost use lib.ListN.{length};

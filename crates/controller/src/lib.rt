@@ -1,5 +1,5 @@
 // The controller of the camera cartridge: the state record, refusals and answers. The modules follow the paper's headings:
-// state (which records can exist, sizes lent), judge (refusals), bus (read and write), capture (ticks), picture (afresh and whole), inspect.
+// state (which records can exist), judge (refusals), bus (read and write), capture (ticks), picture (afresh and whole), inspect.
 mod bus;
 mod capture;
 mod inspect;
@@ -7,10 +7,7 @@ pub mod judge;
 mod picture;
 mod state;
 
-// Cartridge cycles (PHI), and sensor clocks: two cycles make one clock.
-pub struct Cycles(pub u32);
-
-pub struct Clocks(pub u32);
+use timing::Cycles;
 
 // The state record.
 pub struct Controller {

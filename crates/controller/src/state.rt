@@ -1,85 +1,11 @@
-// The state record: reset, the paper's figures, which records can exist; and the sizes of what is lent.
+// The state record: reset, the paper's figures, and which records can exist.
 use super::Controller;
-use super::Cycles;
+use timing::Cycles;
+use timing::all_zero;
+use timing::total;
 ghost use mathlib.Core.Path.{_≡_};
 ghost use mathlib.Core.Bool.{Bool, true, false, not};
-ghost use Prim.Native.Nat.{ℕ, _+_, _*_, _/_, _%_, _<_, _≤_};
-ghost use lib.ListN.{length, getD};
-ghost use Rattle.laws.specs.Sums.{sumOf};
-ghost use Rattle.sensor.specs.Taken.{exposureOf};
-ghost use Rattle.controller.specs.Lent.{banksAllowed, romAllowed, ramAllowed};
-ghost use Rattle.controller.specs.Timing.{totalOf};
-ghost use Rattle.controller.specs.State.{resetState, allZero, leftOver, wrongCapture, canExist};
-
-// A byte as a wider number, with its bound.
-pub(crate) fn wide(x: u8) -> u32
-    ensures { λ r. ⌜ (r ≡ x) × (r < 256) ⌝ }
-{
-    x as u32
-}
-
-// Exposure = A002 * 256 + A003.
-pub(crate) fn exposure(regs: &[u8; 54]) -> u32
-    ensures { λ r. ⌜ (r ≡ exposureOf (now (regs .entry))) × (r < 65536) ⌝ }
-{
-    wide(regs[2]) * 256 + wide(regs[3])
-}
-
-// Total cycles of a capture with these registers taken.
-pub(crate) fn total(regs: &[u8; 54]) -> Cycles
-    ensures { λ r. ⌜ (r .0 ≡ totalOf (now (regs .entry))) × (r .0 < 2000000) ⌝ }
-{
-    let timed = Controller::BASE + 16 * exposure(regs);
-    if regs[1] / 128 % 2 == 1 {
-        return Cycles(timed);
-    }
-    Cycles(timed + Controller::UNFILTERED)
-}
-
-// The sum of 54 bytes.
-fn sum(regs: &[u8; 54]) -> u32
-    ensures { λ r. ⌜ r ≡ sumOf (now (regs .entry)) 54 ⌝ }
-{
-    let mut n: u32 = 0;
-    for i in 0..54 {
-        n += wide(regs[i]);
-    }
-    n
-}
-
-// Whether each of 54 registers is 0.
-fn all_zero(regs: &[u8; 54]) -> bool
-    ensures { λ r. ⌜ r ≡ allZero (now (regs .entry)) ⌝ }
-{
-    sum(regs) == 0
-}
-
-// Whole banks, at most so many; the count of banks must have exactly one bit set.
-fn banks_allowed(len: usize, size: usize, most: usize) -> bool
-    requires { ⌜ 0 < size ⌝ }
-    ensures { λ r. ⌜ r ≡ banksAllowed size most len ⌝ }
-{
-    if len % size != 0 {
-        return false;
-    }
-    let banks = len / size;
-    if most < banks {
-        return false;
-    }
-    usize::count_ones(banks) == 1
-}
-
-pub(crate) fn rom_allowed(len: usize) -> bool
-    ensures { λ r. ⌜ r ≡ romAllowed len ⌝ }
-{
-    banks_allowed(len, Controller::ROM_BANK, 64)
-}
-
-pub(crate) fn ram_allowed(len: usize) -> bool
-    ensures { λ r. ⌜ r ≡ ramAllowed len ⌝ }
-{
-    banks_allowed(len, Controller::RAM_BANK, 16)
-}
+ghost use Rattle.controller.specs.State.{resetState, leftOver, wrongCapture, canExist};
 
 impl Controller {
     // The picture's offset in RAM bank 0, and its bytes.
@@ -87,15 +13,15 @@ impl Controller {
 
     pub const PICTURE_SIZE: usize = tiles::PICTURE_SIZE;
     // Image and frame store: 128 * 128 bytes.
-    pub const FRAME: usize = 16384;
+    pub const FRAME: usize = timing::FRAME;
     // Banks of ROM and RAM.
-    pub const ROM_BANK: usize = 16384;
+    pub const ROM_BANK: usize = timing::ROM_BANK;
 
-    pub const RAM_BANK: usize = 8192;
+    pub const RAM_BANK: usize = timing::RAM_BANK;
     // Cycles of a capture: the base, and what is added where N is clear.
-    pub const BASE: u32 = 32446;
+    pub const BASE: u32 = timing::BASE;
 
-    pub const UNFILTERED: u32 = 512;
+    pub const UNFILTERED: u32 = timing::UNFILTERED;
 
     // The reset state.
     pub fn reset() -> Controller

@@ -6,7 +6,7 @@ use Prim.Native.Nat.{ℕ, zero, suc, _≤_}
 use lib.Dec.{eqb}
 use lib.ListN.{length}
 use Rattle.controller.specs.declared.Controller.{Controller}
-use Rattle.controller.specs.declared.Cycles.{Cycles}
+use Rattle.timing.specs.declared.Cycles.{Cycles}
 use Rattle.controller.specs.declared.Refusal.{Refusal}
 use Rattle.controller.specs.declared.ReadAnswer.{ReadAnswer}
 use Rattle.controller.specs.declared.ReadAnswer.the-variants as reads

@@ -13,8 +13,9 @@ use Rattle.laws.specs.Iter.{iter-keeps}
 use Rattle.laws.proofs.Pick.{pick-ind}
 use Rattle.sensor.specs.Taken.{exposureOf}
 use Rattle.controller.specs.declared.Controller.{Controller}
-use Rattle.controller.specs.Timing.{nSet, totalOf}
-use Rattle.controller.specs.State.{cantExist, allZero, leftOver}
+use Rattle.timing.specs.Registers.{allZero}
+use Rattle.timing.specs.Timing.{nSet, totalOf}
+use Rattle.controller.specs.State.{cantExist, leftOver}
 use Rattle.tiles.specs.Tiles.{Bytes}
 use Rattle.controller.specs.Bus.{registersOn, withEnabled, withBank, withSelect, withRegister, controlWritten, isStart, captureWritten, registerWritten, Left, byteWritten}
 use Rattle.controller.specs.Capture.{Ticking, begun, moved, ended, running, runs, cycle, ticks, from}

@@ -1,6 +1,6 @@
 // The state record as bytes: 116 of them, numbers little-endian.
 use controller::Controller;
-use controller::Cycles;
+use timing::Cycles;
 ghost use mathlib.Core.Path.{_≡_};
 ghost use mathlib.Core.Bool.{true};
 ghost use mathlib.Core.List.{_++_};

@@ -14,11 +14,10 @@ use Rattle.sensor.specs.Light.{adaptedZ, adapted, exposed, turned, lightOf, lit
 use Rattle.sensor.specs.Edge.{held, edgeOf, mode2, modeD, modeE, signedAt, threeOf, nineOf, step4}
 use Rattle.sensor.specs.Row.{passes, rowFilter, step5}
 use Rattle.sensor.specs.Shade.{valueAt, shadeOf, shadeAt}
-use Rattle.controller.specs.Timing.{nSet, totalOf, readingFrom, rowsRead, firstRow, due}
-use Rattle.controller.specs.Capture.{putPixel, writtenAt}
+use Rattle.timing.specs.Timing.{nSet, totalOf, readingFrom, rowsRead, firstRow, due, putPixel, writtenAt}
 use Rattle.tiles.specs.Tiles.{Bytes, putAt}
 use Rattle.laws.specs.Lists.{packed}
-use Rattle.controller.specs.Bulk.{pictureFrom, doneBy}
+use Rattle.timing.specs.Bulk.{pictureFrom, doneBy}
 use Rattle.figures.specs.Figures.{Figure, Agree, table, firstCycle, shown, changed}
 
 -- the test of two numbers with signs

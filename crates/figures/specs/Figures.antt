@@ -11,11 +11,10 @@ use Rattle.sensor.specs.Light.{adaptedZ}
 use Rattle.sensor.specs.Edge.{edgeOf}
 use Rattle.sensor.specs.Row.{rowFilter}
 use Rattle.sensor.specs.Shade.{shadeOf}
-use Rattle.controller.specs.Timing.{totalOf}
-use Rattle.controller.specs.Capture.{writtenAt}
+use Rattle.timing.specs.Timing.{totalOf, writtenAt}
 use Rattle.tiles.specs.Tiles.{putAt}
 use Rattle.laws.specs.Lists.{packed}
-use Rattle.controller.specs.Bulk.{doneBy}
+use Rattle.timing.specs.Bulk.{doneBy}
 
 -- a row: what the definitions give, and what the paper says
 pub record Figure : Type 0 where

@@ -8,7 +8,7 @@ use lib.ListN.{length, getD, set}
 use borrow.Author.Tests.{eqb-true, ne-eqb, lt-ltb, le-ltb, le-leb, ltb-false}
 use Rattle.laws.specs.Pick.{pick}
 use Rattle.controller.specs.declared.Controller.{Controller}
-use Rattle.controller.specs.Lent.{ramAllowed, frameAllowed}
+use Rattle.timing.specs.Lent.{ramAllowed, frameAllowed}
 use Rattle.controller.specs.State.{cantExist}
 use Rattle.controller.specs.Bus.{onCartridge, byteWritten, controlWritten, registerWritten, storeWritten, withRegister, withSelect}
 use Rattle.controller.proofs.Exists.{exists-parts}

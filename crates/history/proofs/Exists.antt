@@ -9,8 +9,9 @@ use lib.ListN.{length, getD, set}
 use lib.Seq.{getD-set-same, getD-set-other}
 use borrow.Author.Tests.{le-ltb, lt-leb}
 use Rattle.controller.specs.declared.Controller.{Controller}
-use Rattle.controller.specs.Timing.{totalOf}
-use Rattle.controller.specs.State.{started, zeroTo, leftOver, wrongCapture, cantExist, resetState}
+use Rattle.timing.specs.Registers.{zeroTo}
+use Rattle.timing.specs.Timing.{totalOf}
+use Rattle.controller.specs.State.{started, leftOver, wrongCapture, cantExist, resetState}
 use Rattle.controller.specs.Capture.{begun}
 use Rattle.controller.specs.Bus.{withEnabled, withBank, withSelect, withRegister, isStart}
 use Rattle.controller.proofs.Exists.{Exists, exists-parts, exists-whole}

@@ -13,24 +13,24 @@ use Rattle.laws.proofs.Order.{split}
 use Rattle.sensor.specs.Taken.{exposureOf}
 use Rattle.laws.proofs.Pick.{pick-ind}
 use Rattle.controller.specs.declared.Controller.{Controller}
-use Rattle.controller.specs.Timing.{totalOf}
+use Rattle.timing.specs.Timing.{totalOf}
 use Rattle.controller.specs.State.{started, cantExist, resetState}
 use Rattle.controller.specs.Capture.{begun, moved, ended, Ticking, ticks, from}
 use Rattle.controller.specs.Capture as capture
 use Rattle.controller.specs.Bus.{Left, left, onCartridge, byteWritten, controlWritten, registerWritten, storeWritten, captureWritten, ramWritten, ramWritable, withBank, withRegister, withEnabled, withSelect, isStart, registersOn}
-use Rattle.controller.specs.Lent.{romAllowed, ramAllowed, frameAllowed}
+use Rattle.timing.specs.Lent.{romAllowed, ramAllowed, frameAllowed}
 use Rattle.controller.specs.Outcome.{Outcome}
 use Rattle.controller.specs.Table.{lowest}
 use Rattle.controller.specs.Calls.{readRows, readMeans, writeRows, writeMeans, tickRows, tickMeans}
 use Rattle.controller.proofs.Refusals.{write-refuses, tick-refuses, judged-ind, judged-pick, write-none, tick-lent}
-use Rattle.controller.proofs.Lent.{frame-lent}
+use Rattle.timing.proofs.Lent.{frame-lent}
 use Rattle.laws.proofs.Bools.{both-left, both-right}
 use Rattle.controller.proofs.Exists.{before-total}
 use Rattle.controller.proofs.Ticks.{idle, going, over}
 use Rattle.tiles.proofs.Pixels.{pixels-length}
 use Rattle.tiles.proofs.Run.{pixels-none}
 use Rattle.tiles.specs.Bulk.{pixels}
-use Rattle.controller.specs.Bulk.{doneBy}
+use Rattle.timing.specs.Bulk.{doneBy}
 use Rattle.desk.specs.declared.choice.Exposure.{Exposure}
 use Rattle.desk.specs.Choice.{beyond, registersChosen, withRegisters, chooseRows, chooseMeans}
 use Rattle.desk.proofs.Choices.{choose-none, choose-refuses}

@@ -12,17 +12,17 @@ use borrow.Author.Tests.{eqb-false, lt-ltb, le-ltb, le-leb, lt-leb, not-true}
 use Rattle.laws.specs.Pick.{pick}
 use Rattle.laws.specs.Bits.{isSet}
 use Rattle.laws.proofs.Order.{split}
-use Rattle.controller.specs.Lent.{ramAllowed}
-use Rattle.controller.specs.Timing.{readingFrom, firstRow}
+use Rattle.timing.specs.Lent.{ramAllowed}
+use Rattle.timing.specs.Timing.{readingFrom, firstRow}
 use Rattle.tiles.specs.Tiles.{place, shadeIn}
 use Rattle.tiles.specs.Picture.{pictureShade}
 use Rattle.tiles.specs.Bulk.{pixels}
-use Rattle.controller.specs.Bulk.{pictureFrom, doneBy}
-use Rattle.controller.proofs.Lent.{ram-lent}
+use Rattle.timing.specs.Bulk.{pictureFrom, doneBy}
+use Rattle.timing.proofs.Lent.{ram-lent}
 use Rattle.laws.proofs.Bools.{both-left, both-right}
 use Rattle.controller.proofs.Exists.{neither-left, neither-right}
 use Rattle.tiles.proofs.Run.{pixels-none}
-use Rattle.controller.proofs.Range.{timed, done-mono, done-most, done-low}
+use Rattle.timing.proofs.Range.{timed, done-mono, done-most, done-low}
 use Rattle.tiles.proofs.Pixels.{pixels-passed, pixels-others}
 use Rattle.history.specs.History.{Call, reset, read, write, tick, inspect, choose, World, fresh, leaves, after, counted}
 use Rattle.history.specs.Track.{Track, writeAccepted, runsIn, toRegisters, starts, imageIn, registersAt, lands, landsAt, byteIn, next, told}

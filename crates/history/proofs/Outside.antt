@@ -10,10 +10,10 @@ use lib.Seq.{getD-set-same, getD-set-other}
 use borrow.Author.Tests.{eqb-true, eqb-false, le-leb}
 use Rattle.laws.specs.Pick.{pick}
 use Rattle.laws.proofs.Pick.{pick-ind}
-use Rattle.controller.specs.Lent.{ramAllowed}
-use Rattle.controller.proofs.Lent.{ram-inside}
+use Rattle.timing.specs.Lent.{ramAllowed}
+use Rattle.timing.proofs.Lent.{ram-inside}
 use Rattle.laws.proofs.Bools.{both-left}
-use Rattle.controller.proofs.Range.{done-most}
+use Rattle.timing.proofs.Range.{done-most}
 use Rattle.tiles.proofs.Pixels.{pixels-length, pixels-outside}
 use Rattle.history.specs.History.{Call, reset, read, write, tick, inspect, choose, World, fresh, leaves, after}
 use Rattle.history.specs.Track.{Track, atReset, writeAccepted, lands, landsAt, byteIn, next}

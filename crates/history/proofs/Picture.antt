@@ -10,14 +10,14 @@ use lib.ListN.{length, getD, set, drop, length-take, length-drop}
 use lib.Seq.{getD-set-same, getD-set-other, set-out, getD-take, getD-drop, ext-getD}
 use borrow.Author.Tests.{eqb-true, eqb-false, ltb-true, lt-ltb, le-leb, not-true}
 use Rattle.laws.proofs.Order.{split}
-use Rattle.controller.specs.Lent.{ramAllowed}
+use Rattle.timing.specs.Lent.{ramAllowed}
 use Rattle.tiles.specs.Tiles.{place, shadeIn, areaOf, Bytes}
 use Rattle.tiles.specs.Picture.{pictureShade, pictureOf}
-use Rattle.controller.specs.Bulk.{doneBy}
-use Rattle.controller.proofs.Lent.{ram-lent}
+use Rattle.timing.specs.Bulk.{doneBy}
+use Rattle.timing.proofs.Lent.{ram-lent}
 use Rattle.laws.proofs.Bools.{both-left, both-right}
 use Rattle.tiles.proofs.Run.{pixels-none}
-use Rattle.controller.proofs.Range.{done-all, done-most}
+use Rattle.timing.proofs.Range.{done-all, done-most}
 use Rattle.tiles.proofs.Pixels.{pixels-bytes}
 use Rattle.tiles.proofs.Area.{area-whole}
 use Rattle.plates.specs.Grey.{plateOf, plateAfresh}

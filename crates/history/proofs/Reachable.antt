@@ -10,11 +10,11 @@ use borrow.Author.Tests.{eqb-false}
 use Rattle.laws.specs.Iter.{iter-keeps}
 use Rattle.laws.proofs.Pick.{pick-ind}
 use Rattle.controller.specs.declared.Controller.{Controller}
-use Rattle.controller.specs.Timing.{totalOf}
+use Rattle.timing.specs.Timing.{totalOf}
 use Rattle.controller.specs.State.{cantExist, resetState}
 use Rattle.controller.specs.Capture.{begun, moved, ended, Ticking, cycle, runs, running, ticks, from}
 use Rattle.controller.specs.Bus.{Left, onCartridge, byteWritten, controlWritten, registerWritten, captureWritten, withBank, withRegister, withEnabled, withSelect, isStart, registersOn}
-use Rattle.controller.specs.Lent.{romAllowed, ramAllowed, frameAllowed}
+use Rattle.timing.specs.Lent.{romAllowed, ramAllowed, frameAllowed}
 use Rattle.controller.specs.Outcome.{Outcome}
 use Rattle.controller.specs.Table.{lowest}
 use Rattle.controller.specs.Calls.{readRows, readMeans, writeRows, writeMeans, tickRows, tickMeans}

@@ -9,8 +9,8 @@ use lib.ListN.{length, getD, replicate, length-replicate, getD-replicate, List·
 use borrow.Author.Tests.{le-leb, lt-leb}
 use Rattle.laws.proofs.Order.{split}
 use Rattle.sensor.specs.Taken.{exposureOf}
-use Rattle.controller.specs.Lent.{banksAllowed}
-use Rattle.controller.specs.Timing.{readingFrom, firstRow}
+use Rattle.timing.specs.Lent.{banksAllowed}
+use Rattle.timing.specs.Timing.{readingFrom, firstRow}
 use Rattle.tiles.specs.Tiles.{shadeIn, areaOf, Bytes}
 use Rattle.tiles.specs.Picture.{pictureShade, pictureOf}
 use Rattle.controller.specs.Bus.{onCartridge}

@@ -5,7 +5,7 @@ use mathlib.Core.List.{List, [], _∷_, _++_}
 use Prim.Native.Nat.{ℕ, _+_, _-_, _*_, _/_, _%_}
 use lib.Dec.{eqb, leb, ltb}
 use Rattle.laws.specs.Pick.{pick}
-use Rattle.controller.specs.Timing.{readingFrom, firstRow}
+use Rattle.timing.specs.Timing.{readingFrom, firstRow}
 use Rattle.tiles.specs.Tiles.{place}
 use Rattle.history.specs.History.{Call, reset, read, write, tick, inspect, choose, World}
 use Rattle.history.specs.Track.{Track, next, follow, told, starts, ends, lands, landsAt, byteIn}

@@ -7,7 +7,7 @@ use lib.Dec.{eqb, ltb}
 use lib.ListN.{length, getD, set}
 use Rattle.laws.specs.Pick.{pick}
 use Rattle.laws.specs.Bits.{isSet}
-use Rattle.controller.specs.Lent.{ramAllowed, frameAllowed}
+use Rattle.timing.specs.Lent.{ramAllowed, frameAllowed}
 use Rattle.controller.specs.State.{started, noRegisters}
 use Rattle.controller.specs.Bus.{onCartridge}
 use Rattle.desk.specs.Choice.{beyond, registersChosen}

@@ -9,7 +9,7 @@ use lib.Dec.{leb}
 use borrow.Author.Tests.{leb-true}
 use Rattle.laws.proofs.Bools.{not-fails, both-left}
 use Rattle.controller.specs.declared.WriteAnswer.{WriteAnswer}
-use Rattle.controller.specs.Lent.{frameAllowed}
+use Rattle.timing.specs.Lent.{frameAllowed}
 use Rattle.controller.specs.Outcome.{writeNumber}
 use Rattle.controller.specs.Picture.{afresh}
 use Rattle.controller.specs.Table.{lowest}

@@ -6,7 +6,7 @@ use Prim.Native.Nat.{ℕ, _≤_}
 use lib.ListN.{length, drop}
 use borrow.Author.Tests.{ltb-false}
 use Rattle.laws.proofs.Bools.{not-fails}
-use Rattle.controller.specs.Lent.{ramAllowed}
+use Rattle.timing.specs.Lent.{ramAllowed}
 use Rattle.controller.specs.Table.{lowest}
 use Rattle.controller.proofs.Only.{only-number, some-number}
 use Rattle.controller.proofs.Refusals.{Refuses, refuses, risingFrom, first-fails}

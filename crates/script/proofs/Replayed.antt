@@ -12,8 +12,8 @@ use borrow.Author.Tests.{eqb-true}
 use Rattle.laws.proofs.Bools.{either}
 use Rattle.laws.proofs.Pick.{pick-same}
 use Rattle.tiles.specs.Tiles.{Bytes}
-use Rattle.controller.specs.Lent.{frameAllowed}
-use Rattle.controller.proofs.Lent.{frame-lent}
+use Rattle.timing.specs.Lent.{frameAllowed}
+use Rattle.timing.proofs.Lent.{frame-lent}
 use Rattle.lines.specs.declared.line.Frame.{Frame}
 use Rattle.lines.specs.declared.line.Frame.the-variants.{Reset, Read, Write, Tick, Row, Malformed}
 use Rattle.lines.specs.Hex.{placed}

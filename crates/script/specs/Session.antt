@@ -6,7 +6,7 @@ use Rattle.laws.specs.Pick.{pick}
 use Rattle.controller.specs.declared.Controller.{Controller}
 use Rattle.controller.specs.declared.Refusal.{Refusal}
 use Rattle.controller.specs.declared.Refusal.the-variants as refusals
-use Rattle.controller.specs.Lent.{frameAllowed}
+use Rattle.timing.specs.Lent.{frameAllowed}
 use Rattle.controller.specs.State.{resetState}
 use Rattle.controller.specs.Outcome.{Outcome, numberOf}
 use Rattle.controller.specs.Calls.{readMeans, writeMeans, tickMeans}

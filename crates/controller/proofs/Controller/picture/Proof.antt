@@ -1,7 +1,7 @@
 -- `controller::Controller::picture` meets its contract: it is judged, and then filled. Assumes nothing.
 use mathlib.Core.Path.{_≡_, sym, ap, _∙_}
 use Rattle.controller.specs.Picture.{pictureRows, afresh}
-use Rattle.controller.proofs.Lent.{frame-lent}
+use Rattle.timing.proofs.Lent.{frame-lent}
 use Rattle.controller.specs.Table.{lowest}
 use Rattle.controller.proofs.Refusals.{picture-refuses, by-why, by-fits, fits-none, picture-fits}
 use borrow.Author.Needs.{needs}

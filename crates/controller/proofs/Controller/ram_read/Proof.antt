@@ -2,7 +2,7 @@
 use Prim.Native.Nat.{_%_}
 use lib.ListN.{length}
 use mathlib.Core.Path.{sym, _∙_}
-use Rattle.controller.proofs.Lent.{ram-lent, ram-inside}
+use Rattle.timing.proofs.Lent.{ram-lent, ram-inside}
 use native.Mathlib.Omega.{arith}
 use borrow.Author.Needs.{needs}
 use Rattle.controller.proofs.Controller.ram_read.Statement.{statement}

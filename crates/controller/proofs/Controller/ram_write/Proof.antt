@@ -4,7 +4,7 @@ use Prim.Native.Nat.{_%_}
 use lib.ListN.{length}
 use Rattle.controller.specs.Bus.{ramWritten}
 use mathlib.Core.Path.{sym, _∙_}
-use Rattle.controller.proofs.Lent.{ram-lent, ram-inside}
+use Rattle.timing.proofs.Lent.{ram-lent, ram-inside}
 use native.Mathlib.Omega.{arith}
 use borrow.Author.Needs.{needs}
 use Rattle.controller.proofs.Controller.ram_write.Statement.{statement}

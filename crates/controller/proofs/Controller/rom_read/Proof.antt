@@ -1,7 +1,7 @@
 -- `controller::Controller::rom_read` meets its contract. Assumes nothing.
 use Rattle.controller.specs.Bus.{romRead}
 use lib.ListN.{length}
-use Rattle.controller.proofs.Lent.{ram-lent, ram-inside, rom-lent, rom-inside}
+use Rattle.timing.proofs.Lent.{ram-lent, ram-inside, rom-lent, rom-inside}
 use native.Mathlib.Omega.{arith}
 use borrow.Author.Tests.{eq-eqb, ne-eqb, lt-ltb, le-ltb, lt-leb, le-leb}
 use borrow.Author.Needs.{needs}

@@ -5,7 +5,7 @@ use lib.ListN.{length}
 use Rattle.laws.proofs.Bools.{left-out, let-in, both-left}
 use Rattle.controller.specs.Calls.{ticked, tickMeans}
 use Rattle.controller.specs.Capture.{ticks, from}
-use Rattle.controller.proofs.Lent.{ram-lent, frame-lent}
+use Rattle.timing.proofs.Lent.{ram-lent, frame-lent}
 use Rattle.controller.proofs.Exists.{before-total}
 use Rattle.controller.proofs.Refusals.{tick-refuses, by-why, by-fits, fits-none, TickFits, tick-fits}
 use Rattle.controller.proofs.Ticks.{idle}

@@ -1,7 +1,7 @@
 -- `controller::Controller::write` meets its contract: it is judged, and then done. Assumes nothing.
 use mathlib.Core.Path.{_≡_, sym, ap, _∙_}
 use Rattle.controller.specs.Calls.{wrote}
-use Rattle.controller.proofs.Lent.{frame-lent}
+use Rattle.timing.proofs.Lent.{frame-lent}
 use Rattle.controller.proofs.Refusals.{write-refuses, by-why, by-fits, fits-none, write-fits}
 use borrow.Author.Needs.{needs}
 use Rattle.controller.proofs.Controller.write.Statement.{statement}

@@ -3,8 +3,8 @@ use mathlib.Core.Path.{_≡_, sym, ap, _∙_}
 use Prim.Native.Nat.{ℕ, _-_, _≤_}
 use native.Mathlib.Omega.{arith}
 use lib.ListN.{length, length-take, length-drop}
-use Rattle.controller.specs.Lent.{frameAllowed}
-use Rattle.controller.proofs.Lent.{frame-lent}
+use Rattle.timing.specs.Lent.{frameAllowed}
+use Rattle.timing.proofs.Lent.{frame-lent}
 use Rattle.controller.proofs.Refusals.{by-why, by-fits, fits-none}
 use mathlib.Core.List.{List}
 use Rattle.laws.specs.Lists.{listed}

@@ -1,7 +1,7 @@
 -- `plates::grey::export` meets its contract: it is judged, and then done. Assumes nothing.
 use mathlib.Core.Path.{_≡_, ap, _∙_}
 use native.Mathlib.Omega.{arith}
-use Rattle.controller.proofs.Lent.{ram-lent}
+use Rattle.timing.proofs.Lent.{ram-lent}
 use Rattle.controller.proofs.Refusals.{by-why, by-fits, fits-none}
 use Rattle.plates.specs.Grey.{exported}
 use Rattle.plates.proofs.Exports.{export-refuses, export-fits}

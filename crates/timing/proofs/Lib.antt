@@ -1,0 +1,4 @@
+-- Laws of lengths and timing.
+pub mod Lent
+pub mod Zeros
+pub mod Range

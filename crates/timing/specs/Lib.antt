@@ -1,0 +1,5 @@
+-- Lengths and timing, in the paper's order.
+pub mod Lent
+pub mod Registers
+pub mod Timing
+pub mod Bulk
