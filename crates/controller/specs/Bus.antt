@@ -51,6 +51,8 @@ withEnabled c b = record {
   held = c .held;
   taken = c .taken;
   elapsed = c .elapsed;
+  started = c .started;
+  ended = c .ended;
 }
 
 unfoldable pub withBank : Controller → ℕ → Controller
@@ -62,6 +64,8 @@ withBank c n = record {
   held = c .held;
   taken = c .taken;
   elapsed = c .elapsed;
+  started = c .started;
+  ended = c .ended;
 }
 
 unfoldable pub withSelect : Controller → ℕ → Controller
@@ -73,6 +77,8 @@ withSelect c n = record {
   held = c .held;
   taken = c .taken;
   elapsed = c .elapsed;
+  started = c .started;
+  ended = c .ended;
 }
 
 unfoldable pub withRegister : Controller → ℕ → ℕ → Controller
@@ -84,6 +90,8 @@ withRegister c i v = record {
   held = c .held;
   taken = c .taken;
   elapsed = c .elapsed;
+  started = c .started;
+  ended = c .ended;
 }
 
 -- Write 0000-1FFF: 0A enables, 00 disables RAM writing; other values change nothing (house rule)

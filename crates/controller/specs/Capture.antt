@@ -8,9 +8,9 @@ use Rattle.laws.specs.Pick.{pick}
 use Rattle.laws.specs.Iter.{iter}
 use Rattle.controller.specs.declared.Controller.{Controller}
 use Rattle.timing.specs.Timing.{totalOf, writtenAt}
-use Rattle.controller.specs.State.{started, noRegisters}
+use Rattle.controller.specs.State.{started, noRegisters, oneMore}
 
--- A start: registers 1 to 53 and the new register 0 are taken; elapsed is 0
+-- A start: registers 1 to 53 and the new register 0 are taken; elapsed is 0; one more capture has started since reset
 unfoldable pub begun : Controller → ℕ → Controller
 begun c v = record {
   enabled = c .enabled;
@@ -20,6 +20,8 @@ begun c v = record {
   held = true;
   taken = set (c .registers) 0 v;
   elapsed = record { 0 = 0 };
+  started = oneMore (c .started);
+  ended = c .ended;
 }
 
 -- the state at a number of elapsed cycles
@@ -32,9 +34,11 @@ moved c e = record {
   held = c .held;
   taken = c .taken;
   elapsed = record { 0 = e };
+  started = c .started;
+  ended = c .ended;
 }
 
--- At its total, register 0 bit 0 clears (bits 1 and 2 stay), the capture is no longer held, and elapsed and taken registers become 0
+-- At its total, register 0 bit 0 clears (bits 1 and 2 stay), the capture is no longer held, and elapsed and taken registers become 0; one more has reached its end
 unfoldable pub ended : Controller → Controller
 ended c = record {
   enabled = c .enabled;
@@ -44,6 +48,8 @@ ended c = record {
   held = false;
   taken = noRegisters;
   elapsed = record { 0 = 0 };
+  started = c .started;
+  ended = oneMore (c .ended);
 }
 
 -- the state, the RAM, and how many cycles fell while a capture was running

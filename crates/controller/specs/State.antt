@@ -1,7 +1,7 @@
 -- The state record: which can't exist, and the reset state. Assumes nothing.
 use mathlib.Core.Bool.{Bool, true, false, not, _&&_, _||_}
 use mathlib.Core.List.{List}
-use Prim.Native.Nat.{ℕ, _%_}
+use Prim.Native.Nat.{ℕ, _+_, _%_}
 use lib.Dec.{eqb, leb, ltb}
 use lib.ListN.{getD, replicate}
 use Rattle.controller.specs.declared.Controller.{Controller}
@@ -36,7 +36,11 @@ canExist c = not (cantExist c)
 abbrev pub noRegisters : List ℕ
 noRegisters = replicate 54 0
 
--- Reset: write enable off, ROM bank 1, select 0, all registers 0, no capture held
+-- one more, wrapping from 65,535 to 0
+abbrev pub oneMore : ℕ → ℕ
+oneMore n = (n + 1) % 65536
+
+-- Reset: write enable off, ROM bank 1, select 0, all registers 0, no capture held, and both counts 0
 unfoldable pub resetState : Controller
 resetState = record {
   enabled = false;
@@ -46,4 +50,6 @@ resetState = record {
   held = false;
   taken = noRegisters;
   elapsed = record { 0 = 0 };
+  started = 0;
+  ended = 0;
 }

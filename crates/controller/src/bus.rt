@@ -9,6 +9,7 @@ use super::judge::no_frame;
 use super::judge::no_place;
 use super::judge::no_ram;
 use super::judge::no_rom;
+use super::state::one_more;
 use timing::Cycles;
 use timing::bank_place;
 use timing::copy_frame;
@@ -159,7 +160,7 @@ impl Controller {
         false
     }
 
-    // A start: the registers are taken, the new register 0 with them.
+    // A start: the registers are taken, the new register 0 with them; one more has started.
     fn begin(mut self, value: u8) -> Controller
         ensures { λ r. ⌜ r ≡ begun self value ⌝ }
     {
@@ -169,6 +170,7 @@ impl Controller {
         self.held = true;
         let none = Cycles(0);
         self.elapsed = none;
+        self.started = one_more(self.started);
         self
     }
 

@@ -5,6 +5,7 @@ use super::TickDone;
 use super::Verdict;
 use super::judge::no_frame;
 use super::judge::no_ram;
+use super::state::one_more;
 use timing::Cycles;
 use timing::total;
 use timing::write_between;
@@ -38,7 +39,7 @@ impl Controller {
         self
     }
 
-    // The state as its capture ends: register 0 bit 0 clears, nothing is held or taken.
+    // The state as its capture ends: register 0 bit 0 clears, nothing is held or taken; one more has ended.
     fn at_end(mut self) -> Controller
         ensures { λ r. ⌜ r ≡ ended self ⌝ }
     {
@@ -49,6 +50,7 @@ impl Controller {
         self.taken = none;
         let start = Cycles(0);
         self.elapsed = start;
+        self.ended = one_more(self.ended);
         self
     }
 

@@ -9,7 +9,7 @@ mod state;
 
 use timing::Cycles;
 
-// The state record.
+// The state record; captures started, and those that reached their end, are counted since reset.
 pub struct Controller {
     pub enabled: bool,
     pub bank: u8,
@@ -18,6 +18,8 @@ pub struct Controller {
     pub held: bool,
     pub taken: [u8; 54],
     pub elapsed: Cycles,
+    pub started: u16,
+    pub ended: u16,
 }
 
 // Refusals, by what can't exist, is not allowed or is too short.

@@ -5,7 +5,14 @@ use timing::all_zero;
 use timing::total;
 ghost use mathlib.Core.Path.{_≡_};
 ghost use mathlib.Core.Bool.{Bool, true, false, not};
-ghost use Rattle.controller.specs.State.{resetState, leftOver, wrongCapture, canExist};
+ghost use Rattle.controller.specs.State.{oneMore, resetState, leftOver, wrongCapture, canExist};
+
+// One more, wrapping from 65,535 to 0.
+pub(crate) fn one_more(n: u16) -> u16
+    ensures { λ r. ⌜ r ≡ oneMore n ⌝ }
+{
+    std::num::wrapping_add_u16(n, 1)
+}
 
 impl Controller {
     // The picture's offset in RAM bank 0, and its bytes.
@@ -35,6 +42,8 @@ impl Controller {
             held: false,
             taken: [0; 54],
             elapsed: Cycles(0),
+            started: 0,
+            ended: 0,
         }
     }
 

@@ -1,4 +1,4 @@
--- `controller::Controller::at_end` meets its contract: four fields are set. Assumes nothing.
+-- `controller::Controller::at_end` meets its contract: five fields are set. Assumes nothing.
 use borrow.Author.Needs.{needs}
 use Rattle.controller.specs.Capture.{ended}
 use Rattle.controller.proofs.Controller.at_end.Statement.{statement}
@@ -6,7 +6,7 @@ use Rattle.controller.proofs.Controller.at_end.Tie as tie
 
 returns : tie.Need-returns
 unfolding ended
-returns c = rw (c .even .ensures)
+returns c = rw (c .before .even .ensures, c .one-more .ensures)
 
 pub at-end-spec : {M : Type 1} → statement M
-at-end-spec = tie.close (tie.spec (λ c. search needs) (λ c κs. search needs) (λ c. search needs) returns)
+at-end-spec = tie.close (tie.spec (λ c. search needs) (λ c κs. search needs) (λ c. search needs) (λ c κs. search needs) returns)

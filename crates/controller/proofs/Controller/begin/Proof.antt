@@ -1,5 +1,4 @@
 -- `controller::Controller::begin` meets its contract. Assumes nothing.
-use mathlib.Core.Path.{refl}
 use Rattle.controller.specs.Capture.{begun}
 use borrow.Author.Needs.{needs}
 use Rattle.controller.proofs.Controller.begin.Statement.{statement}
@@ -10,7 +9,7 @@ element-write-self c = search needs
 
 returns : tie.Need-returns
 unfolding begun
-returns c = refl
+returns c = rw (c .one-more .ensures)
 
 pub begin-spec : {M : Type 1} → statement M
-begin-spec = tie.close (tie.spec element-write-self returns)
+begin-spec = tie.close (tie.spec element-write-self (λ c κs. search needs) returns)
