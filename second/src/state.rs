@@ -27,6 +27,10 @@ pub struct State {
     pub registers: [u8; REGISTERS],
     /// The registers as taken when the held capture started.
     pub taken: [u8; REGISTERS],
+    /// Captures started since reset, 65,536 counting as 0.
+    pub started: u16,
+    /// Captures that reached their end since reset, counted likewise.
+    pub finished: u16,
 }
 
 impl State {
@@ -39,6 +43,8 @@ impl State {
         elapsed: 0,
         registers: [0; REGISTERS],
         taken: [0; REGISTERS],
+        started: 0,
+        finished: 0,
     };
 
     /// Whether some history of calls could lead here, by the paper's list.
@@ -93,6 +99,7 @@ impl State {
             self.held = true;
             self.elapsed = 0;
             self.taken = self.registers;
+            self.started = self.started.wrapping_add(1);
         }
         starts
     }
@@ -103,9 +110,10 @@ impl State {
         self.held = false;
         self.elapsed = 0;
         self.taken = [0; REGISTERS];
+        self.finished = self.finished.wrapping_add(1);
     }
 
-    /// The record as 116 bytes, numbers little-endian.
+    /// The record as 116 bytes, numbers little-endian; the two counts are not among them.
     pub fn to_bytes(&self) -> [u8; RECORD_BYTES] {
         let mut bytes = [0; RECORD_BYTES];
         bytes[0] = self.ram_enabled.into();
@@ -118,7 +126,7 @@ impl State {
         bytes
     }
 
-    /// The record from its bytes; none for another length or a flag above 1.
+    /// The record from its bytes, both counts 0; none for another length or a flag above 1.
     pub fn from_bytes(bytes: &[u8]) -> Option<State> {
         let bytes: &[u8; RECORD_BYTES] = bytes.try_into().ok()?;
         if bytes[0] > 1 || bytes[3] > 1 {
@@ -132,6 +140,7 @@ impl State {
             elapsed: u32::from_le_bytes([bytes[4], bytes[5], bytes[6], bytes[7]]),
             registers: bytes[8..62].try_into().ok()?,
             taken: bytes[62..].try_into().ok()?,
+            ..State::RESET
         })
     }
 }

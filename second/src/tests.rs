@@ -2,6 +2,7 @@
 
 mod calls;
 mod colour;
+mod counts;
 mod desk;
 mod figures;
 mod grey;
