@@ -112,7 +112,11 @@ static void begin(const char *path)
 static void finish(const char *path)
 {
     FILE *file = fopen(path, "rb");
-    if (!file || fread(state, sizeof state, 1, file) != 1 || fread(ram, sizeof ram, 1, file) != 1 ||
+    if (!file || fread(state, sizeof state, 1, file) != 1)
+        fail("the file can't be read");
+    if (state[0] != GULXINETT_LAYOUT)
+        fail("the state is of another layout than this program reads: another version saved it");
+    if (fread(ram, sizeof ram, 1, file) != 1 ||
         fread(store, sizeof store, 1, file) != 1 || fgetc(file) != EOF || fclose(file) != 0)
         fail("the file can't be read");
     uint8_t registers[GULXINETT_REGISTERS_LEN], others[GULXINETT_REGISTERS_LEN];

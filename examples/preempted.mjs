@@ -5,7 +5,7 @@
 //
 // The finished picture must be the one of the first image under the first registers.
 import { readFileSync, writeFileSync } from "node:fs";
-import { FRAME_BYTES, PICTURE_BYTES, RAM_BANK, REGISTERS, STATE_BYTES, load } from "../bindings/js/gulxinett.js";
+import { FRAME_BYTES, PICTURE_BYTES, RAM_BANK, REGISTERS, load } from "../bindings/js/gulxinett.js";
 
 const TRIGGER = 0xa000;
 const TOTAL = 45_246;
@@ -57,9 +57,9 @@ function begin(path) {
 /** A cartridge from the file: state, RAM and frame store, one after the other. */
 function loaded(path) {
   const saved = readFileSync(path);
-  ensure(saved.length === STATE_BYTES + RAM_BANK + FRAME_BYTES, "the file has another size");
-  const ram = STATE_BYTES;
-  const store = STATE_BYTES + RAM_BANK;
+  const ram = saved.length - RAM_BANK - FRAME_BYTES;
+  const store = saved.length - FRAME_BYTES;
+  ensure(ram > 0, "the file has another size");
   return Cartridge.restore({ state: saved.subarray(0, ram), ram: saved.subarray(ram, store), store: saved.subarray(store) });
 }
 

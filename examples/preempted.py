@@ -10,7 +10,7 @@ import sys
 from pathlib import Path
 
 sys.path.insert(0, str(Path(__file__).resolve().parents[1] / "bindings" / "python"))
-from gulxinett import FRAME_BYTES, PICTURE_BYTES, RAM_BANK, REGISTERS, STATE_BYTES, Cartridge, Refusal, Save, picture
+from gulxinett import FRAME_BYTES, PICTURE_BYTES, RAM_BANK, REGISTERS, Cartridge, Refusal, Save, picture
 
 TRIGGER = 0xA000
 TOTAL = 45_246
@@ -59,9 +59,10 @@ def begin(path):
 def loaded(path):
     """A cartridge from the file: state, RAM and frame store, one after the other."""
     saved = Path(path).read_bytes()
-    ensure(len(saved) == STATE_BYTES + RAM_BANK + FRAME_BYTES, "the file has another size")
-    memory = saved[STATE_BYTES:]
-    return Cartridge.restore(Save(saved[:STATE_BYTES], memory[:RAM_BANK], memory[RAM_BANK:]))
+    state = len(saved) - RAM_BANK - FRAME_BYTES
+    ensure(state > 0, "the file has another size")
+    memory = saved[state:]
+    return Cartridge.restore(Save(saved[:state], memory[:RAM_BANK], memory[RAM_BANK:]))
 
 
 def finish(path):

@@ -1,17 +1,21 @@
 /* The Game Boy Camera cartridge controller, as C functions.
  *
- * The state record is 116 bytes, numbers little-endian:
+ * The state record is 121 bytes, numbers little-endian:
  *
- *   offset  0       RAM write enable, 0 or 1
- *   offset  1       ROM bank, 0 to 63
- *   offset  2       RAM select, 0 to 31
- *   offset  3       capture held, 0 or 1
- *   offset  4.. 8   elapsed cycles, 32 bits
- *   offset  8.. 62  the 54 registers
- *   offset 62..116  the 54 registers taken at the start of the capture held
+ *   offset  0       the number of this layout, 2
+ *   offset  1       RAM write enable, 0 or 1
+ *   offset  2       ROM bank, 0 to 63
+ *   offset  3       RAM select, 0 to 31
+ *   offset  4       capture held, 0 or 1
+ *   offset  5.. 9   elapsed cycles, 32 bits
+ *   offset  9.. 11  captures started since reset, 16 bits, wrapping
+ *   offset 11.. 13  captures that reached their end since reset, likewise
+ *   offset 13.. 67  the 54 registers
+ *   offset 67..121  the 54 registers taken at the start of the capture held
  *
- * Bytes of another length, or with offset 0 or 3 above 1, are no record and are refused as 1,
- * exactly as a record that can't exist.
+ * Bytes of another length or layout, or with offset 1 or 4 above 1, are no record and are refused
+ * as 1, exactly as a record that can't exist. So what another version saved is never misread:
+ * layout 1 had 116 bytes and began with a flag, which was 0 or 1.
  *
  * Every function answers refusal number * 2^32 + value; number 0 means not refused, and a
  * refusal has value 0. A refused call changes no byte it was lent. The refusals, lowest first:
@@ -39,7 +43,7 @@ extern "C" {
 #endif
 
 /* Sizes in bytes. */
-#define GULXINETT_STATE_LEN 116
+#define GULXINETT_STATE_LEN 121
 #define GULXINETT_REGISTERS_LEN 54
 #define GULXINETT_ROM_BANK_LEN 16384
 #define GULXINETT_RAM_BANK_LEN 8192
@@ -56,6 +60,11 @@ extern "C" {
  * the need of each function out from the compiled frames. */
 #define GULXINETT_STACK 8192
 
+/* The layout of the state record, and where in it the two counts of captures stand. */
+#define GULXINETT_LAYOUT 2
+#define GULXINETT_STARTED_OFFSET 9
+#define GULXINETT_ENDED_OFFSET 11
+
 /* Where the picture lies in RAM bank 0. */
 #define GULXINETT_PICTURE_OFFSET 0x100
 
@@ -63,7 +72,7 @@ extern "C" {
 #define GULXINETT_REFUSAL(answer) ((uint32_t)((uint64_t)(answer) >> 32))
 #define GULXINETT_VALUE(answer) ((uint32_t)(answer))
 
-/* Writes the reset record; refused as 1 if state_len is not 116. Value 0. */
+/* Writes the reset record; refused as 1 if state_len is not 121. Value 0. */
 uint64_t gulxinett_reset(uint8_t *state, size_t state_len);
 
 /* Reads the byte at an address. Value: the byte. */

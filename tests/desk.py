@@ -36,7 +36,7 @@ def chosen(matrix, dithering):
 
 
 def registers_of(cartridge):
-    return cartridge.save().state[8:62]
+    return cartridge.save().state[13:67]
 
 
 def every_choice(matrices):

@@ -2,7 +2,7 @@
 import { readFileSync } from "node:fs";
 
 const SIZES = {
-  state: 116, ram: 8192, store: 16384, image: 16384, registers: 54, picture: 3584, line: 261, plate: 14351, photograph: 15 + 3 * 16384,
+  state: 121, ram: 8192, store: 16384, image: 16384, registers: 54, picture: 3584, line: 261, plate: 14351, photograph: 15 + 3 * 16384,
 };
 const PAGE = 65536;
 const TRIGGER = 0xa000;

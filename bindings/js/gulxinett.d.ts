@@ -2,7 +2,11 @@
 export type Bytes = Uint8Array | Uint8ClampedArray | ArrayBuffer;
 
 /** Bytes of the state record. */
-export const STATE_BYTES: 116;
+export const STATE_BYTES: 121;
+/** The layout of these bytes, which their first one says; bytes of another layout are refused as 1. */
+export const LAYOUT: 2;
+/** The layout that a state record's bytes were saved in, whichever version saved them; null if they are no record's. */
+export function layoutOf(state: Bytes): number | null;
 /** Camera registers. */
 export const REGISTERS: 54;
 /** Bytes in one ROM bank. */
@@ -27,14 +31,14 @@ export const PLATE_BYTES: 14351;
  * that can be read, 9 the light set of a choice is above 1 or its level above 15.
  */
 export class Refusal extends Error {
-  constructor(number: number);
+  constructor(number: number, sentence?: string);
   readonly name: "Refusal";
   readonly number: number;
 }
 
 /** All that a cartridge needs to go on elsewhere; the ROM is brought by whoever goes on. */
 export interface Save {
-  /** The state record, 116 bytes. */
+  /** The state record, 121 bytes. */
   state: Uint8Array;
   /** The RAM, as long as it was given. */
   ram: Uint8Array;
@@ -54,7 +58,7 @@ export interface Given {
   rom?: Bytes;
   /** 8,192 bytes times 1, 2, 4, 8 or 16; without it one bank of FF. */
   ram?: Bytes;
-  /** 116 bytes; without it the record after reset. */
+  /** 121 bytes; without it the record after reset. */
   state?: Bytes;
   /** 16,384 bytes; without it all 00. */
   store?: Bytes;
@@ -79,6 +83,10 @@ export interface Choice {
  * bytes of its kind, and a `Refusal` for what the controller refuses; then nothing has changed.
  */
 export interface Cartridge {
+  /** Captures started since reset, 65,536 counting as 0; as a capture starts this becomes its plate's serial. */
+  readonly started: number;
+  /** Captures that reached their end since reset, counted likewise. */
+  readonly ended: number;
   /** Resets the state; RAM, frame store and image stay. */
   reset(): void;
   /** The byte at an address. */

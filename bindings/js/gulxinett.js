@@ -5,7 +5,9 @@ import { Memory } from "./memory.js";
 import { LINE_BYTES, ROW_BYTES, Recorder } from "./recorder.js";
 
 /** Bytes of the state record. */
-export const STATE_BYTES = 116;
+export const STATE_BYTES = 121;
+/** The layout of these bytes, which their first one says; bytes of another layout are refused as 1. */
+export const LAYOUT = 2;
 /** Camera registers. */
 export const REGISTERS = 54;
 /** Bytes in one ROM bank. */
@@ -25,10 +27,13 @@ export const PLATE_BYTES = 14_351;
 /** The exposure that names none. */
 const UNNAMED = 0x1_0000;
 
-/** Where select stands in the state record. */
-const SELECT_OFFSET = 2;
-/** Where the registers stand in the state record. */
-const REGISTERS_OFFSET = 8;
+/** Where select, the two counts of captures and the registers stand in the state record. */
+const SELECT_OFFSET = 3;
+const STARTED_OFFSET = 9;
+const ENDED_OFFSET = 11;
+const REGISTERS_OFFSET = 13;
+/** Bytes of the state record of layout 1, which had no number and began with a flag. */
+const FIRST_LAYOUT_BYTES = 116;
 
 /** What each refusal number says. */
 const SENTENCES = {
@@ -45,11 +50,25 @@ const SENTENCES = {
 
 /** A call that was refused, by its number; it changed nothing. */
 export class Refusal extends Error {
-  constructor(number) {
-    super(SENTENCES[number] ?? `refusal ${number}`);
+  constructor(number, sentence = SENTENCES[number] ?? `refusal ${number}`) {
+    super(sentence);
     this.name = "Refusal";
     this.number = number;
   }
+}
+
+/** The layout that a state record's bytes were saved in, whichever version saved them; null if they are no record's. */
+export function layoutOf(state) {
+  const bytes = bytesOf("the state", state);
+  if (bytes[0] > 1) return bytes[0];
+  return bytes.length === FIRST_LAYOUT_BYTES ? 1 : null;
+}
+
+/** A refusal of what a cartridge was given; where the state is of another layout, it says so. */
+function ofItsLayout(refusal, state) {
+  const layout = layoutOf(state);
+  if (refusal.number !== 1 || layout === null || layout === LAYOUT) return refusal;
+  return new Refusal(1, `the state is of layout ${layout}, and this program reads layout ${LAYOUT}: another version saved it`);
 }
 
 /** The module beside this file, where './build wasm' of the repository puts it. */
@@ -179,14 +198,31 @@ function bound(exports) {
         this.read(0);
         this.tick(0);
       } catch (refusal) {
+        const said = ofItsLayout(refusal, this.#kept.state.bytes);
         this.close();
-        throw refusal;
+        throw said;
       }
     }
 
     #open() {
       if (!this.#kept) throw new Error("the cartridge is closed");
       return this.#kept;
+    }
+
+    /** A count of captures as it stands in the state. */
+    #count(place) {
+      const { bytes } = this.#open().state;
+      return bytes[place] + 256 * bytes[place + 1];
+    }
+
+    /** Captures started since reset, 65,536 counting as 0; as a capture starts this becomes its plate's serial. */
+    get started() {
+      return this.#count(STARTED_OFFSET);
+    }
+
+    /** Captures that reached their end since reset, counted likewise. */
+    get ended() {
+      return this.#count(ENDED_OFFSET);
     }
 
     /** Resets the state; RAM, frame store and image stay. */

@@ -15,7 +15,9 @@ from pathlib import Path
 from typing import NamedTuple, Optional
 
 #: Bytes of the state record.
-STATE_BYTES = 116
+STATE_BYTES = 121
+#: The layout of these bytes, which their first one says; bytes of another layout are refused as 1.
+LAYOUT = 2
 #: Camera registers.
 REGISTERS = 54
 #: Bytes in one ROM bank.
@@ -36,10 +38,13 @@ PLATE_BYTES = 14_351
 _UNNAMED = 0x1_0000
 # Where the registers that a choice writes stand among the 54: exposure, then the matrix.
 _CHOSEN = (2, 3, *range(6, REGISTERS))
-# Where select stands in the state record.
-_SELECT_OFFSET = 2
-# Where the registers stand in the state record.
-_REGISTERS_OFFSET = 8
+# Where select, the two counts of captures and the registers stand in the state record.
+_SELECT_OFFSET = 3
+_STARTED_OFFSET = 9
+_ENDED_OFFSET = 11
+_REGISTERS_OFFSET = 13
+# Bytes of the state record of layout 1, which had no number and began with a flag.
+_FIRST_LAYOUT_BYTES = 116
 # Bytes of a row of the image.
 _ROW_BYTES = 128
 # Bytes of the longest line of a script, that of a row, with its LF.
@@ -82,13 +87,13 @@ _FUNCTIONS = {
 class Refusal(Exception):
     """A call that was refused, by its number; it changed nothing."""
 
-    def __init__(self, number):
-        super().__init__(_SENTENCES.get(number, "refusal %d" % number))
+    def __init__(self, number, sentence=None):
+        super().__init__(sentence or _SENTENCES.get(number, "refusal %d" % number))
         self.number = number
 
     def __reduce__(self):
         # so that a worker's refusal reaches the process that started it
-        return Refusal, (self.number,)
+        return Refusal, (self.number, str(self))
 
 
 class Save(NamedTuple):
@@ -184,6 +189,24 @@ def _up_to(most, what, value):
     return number
 
 
+def layout_of(state):
+    """The layout that a state record's bytes were saved in, whichever version saved them; None if they are no record's."""
+    first = bytes(state[:1])
+    if first > b"\1":
+        return first[0]
+    return 1 if len(state) == _FIRST_LAYOUT_BYTES else None
+
+
+def _of_its_layout(refusal, state):
+    """A refusal of what a cartridge was given; where the state is of another layout, it says so."""
+    layout = layout_of(state)
+    if refusal.number != 1 or layout in (None, LAYOUT):
+        return refusal
+    return Refusal(
+        1, "the state is of layout %d, and this program reads layout %d: another version saved it" % (layout, LAYOUT)
+    )
+
+
 def picture(frame, registers):
     """The whole picture of a frame under 54 registers taken, as RAM bank 0 gets it from offset 100h on."""
     frame, registers = _memory("the frame", frame), _memory("the registers", registers)
@@ -253,8 +276,11 @@ class Cartridge:
         if state is None:
             self.reset()
         # the library judges what was given: a read looks at state, ROM and RAM, no cycles at the store too
-        self.read(0)
-        self.tick(0)
+        try:
+            self.read(0)
+            self.tick(0)
+        except Refusal as refusal:
+            raise _of_its_layout(refusal, self._state) from None
 
     @classmethod
     def restore(cls, save, rom=None):
@@ -270,6 +296,21 @@ class Cartridge:
     def _open(self):
         if self._closed:
             raise ValueError("the cartridge is closed")
+
+    def _count(self, place):
+        """A count of captures as it stands in the state."""
+        self._open()
+        return int.from_bytes(bytes(self._state[place : place + 2]), "little")
+
+    @property
+    def started(self):
+        """Captures started since reset, 65,536 counting as 0; as a capture starts this becomes its plate's serial."""
+        return self._count(_STARTED_OFFSET)
+
+    @property
+    def ended(self):
+        """Captures that reached their end since reset, counted likewise."""
+        return self._count(_ENDED_OFFSET)
 
     def _note(self, kind, *words):
         """Lets the recorder note a call, if it is switched on."""

@@ -13,7 +13,11 @@ import unittest
 from pathlib import Path
 
 import gulxinett
-from gulxinett import FRAME_BYTES, PICTURE_BYTES, RAM_BANK, REGISTERS, ROM_BANK, STATE_BYTES, Cartridge, Refusal, picture
+from gulxinett import (
+    FRAME_BYTES, LAYOUT, PICTURE_BYTES, RAM_BANK, REGISTERS, ROM_BANK, STATE_BYTES, Cartridge, Refusal, layout_of, picture,
+)
+
+ROOT = Path(__file__).resolve().parents[2]
 
 TOTAL = 32_958 + 16 * 0x80
 TAKEN = bytes([3, 0, 0, 0x80, 0, 0]) + bytes(0x40 + 0x20 * (n % 3) + n for n in range(6, REGISTERS))
@@ -112,11 +116,11 @@ class Recording(unittest.TestCase):
         start = len(cartridge.recording())
         cartridge.choose(light=1, level=7)
         low, state = b"\x8c\x98\xac", cartridge.save().state
-        self.assertEqual((state[10:12], state[14:17]), (b"\x03\x00", low))
-        kept = [place for place in range(STATE_BYTES) if place not in (10, 11) and not 14 <= place < 62]
+        self.assertEqual((state[15:17], state[19:22]), (b"\x03\x00", low))
+        kept = [place for place in range(STATE_BYTES) if place not in (15, 16) and not 19 <= place < 67]
         self.assertEqual([state[place] for place in kept], [before.state[place] for place in kept])
         self.assertEqual(cartridge.save(), before._replace(state=state))
-        writes = [(0x4000, 0x10)] + [(0xA000 + n, state[8 + n]) for n in (2, 3, *range(6, 54))] + [(0x4000, 0x05)]
+        writes = [(0x4000, 0x10)] + [(0xA000 + n, state[13 + n]) for n in (2, 3, *range(6, 54))] + [(0x4000, 0x05)]
         due = b"".join(b"02%04X%02X\n" % write for write in writes)
         self.assertEqual(cartridge.recording()[start:], due)
         for light, level in ((2, 7), (0, 16), (255, 255)):
@@ -135,7 +139,7 @@ class Recording(unittest.TestCase):
         self.assertEqual(cartridge.recording()[start:], due)
         cartridge.choose(light=1, level=7, dithering=False, exposure=0x1234)
         plain = cartridge.save().state
-        self.assertEqual((plain[10:12], plain[14:62]), (b"\x12\x34", low * 16))
+        self.assertEqual((plain[15:17], plain[19:67]), (b"\x12\x34", low * 16))
         self.assertIsNone(cartridge.inspect())
         self.assertEqual(cartridge.tick(0xFFFF_FFFF), TOTAL - 20_000)
         self.assertEqual(cartridge.area(), picture(frame(1), TAKEN))
@@ -274,7 +278,7 @@ class BadInput(unittest.TestCase):
         for length in (0, 1, STATE_BYTES - 1):
             self.refused(1, Cartridge.restore, save._replace(state=save.state[:length]))
         self.refused(1, Cartridge.restore, save._replace(state=save.state + b"\0"))
-        for place, byte in ((0, 2), (1, 64), (2, 32), (3, 0), (3, 2), (7, 255), (8, 8)):
+        for place, byte in ((0, 1), (1, 2), (2, 64), (3, 32), (4, 0), (4, 2), (8, 255), (13, 8)):
             state = bytearray(save.state)
             state[place] = byte
             self.refused(1, Cartridge.restore, save._replace(state=state))
@@ -291,6 +295,48 @@ class BadInput(unittest.TestCase):
                 Cartridge.restore(none)
         self.assertEqual((save, cartridge.save()), (before, before))
 
+    def test_counts(self):
+        cartridge = Cartridge()
+        cartridge.write(0x4000, 0x10)
+        self.assertEqual((cartridge.started, cartridge.ended), (0, 0))
+        for serial in (1, 2):
+            cartridge.write(0xA000, 1)
+            cartridge.tick(20_000)
+            self.assertEqual((cartridge.started, cartridge.ended), (serial, serial - 1))
+            # a stop and a resume count nothing
+            cartridge.write(0xA000, 0)
+            cartridge.write(0xA000, 1)
+            cartridge.tick(1_000_000)
+            self.assertEqual((cartridge.started, cartridge.ended), (serial, serial))
+        save = cartridge.save()
+        state = bytearray(save.state)
+        state[9:13] = b"\xff\xff\xfe\xff"
+        worn = Cartridge.restore(save._replace(state=state))
+        self.assertEqual((worn.started, worn.ended), (0xFFFF, 0xFFFE))
+        worn.write(0xA000, 1)
+        worn.tick(1_000_000)
+        self.assertEqual((worn.started, worn.ended), (0, 0xFFFF))
+        cartridge.reset()
+        self.assertEqual((cartridge.started, cartridge.ended), (0, 0))
+
+    def test_layouts(self):
+        cartridge = begun(4)
+        cartridge.tick(20_000)
+        save = cartridge.save()
+        self.assertEqual(layout_of(save.state), LAYOUT)
+        before = (ROOT / "tests/data/layout-1.state").read_bytes()
+        later = bytes([LAYOUT + 1]) + save.state[1:]
+        for layout, state in ((1, before), (LAYOUT + 1, later)):
+            self.assertEqual(layout_of(state), layout)
+            sentence = "the state is of layout %d, and this program reads layout %d: another version saved it"
+            with self.assertRaisesRegex(Refusal, sentence % (layout, LAYOUT)) as caught:
+                Cartridge.restore(save._replace(state=state))
+            self.assertEqual(caught.exception.number, 1)
+        for none in (b"", b"\0", b"\1" * STATE_BYTES):
+            self.assertIsNone(layout_of(none))
+            with self.assertRaisesRegex(Refusal, "the state record can't exist"):
+                Cartridge.restore(save._replace(state=none))
+
     def test_closed(self):
         cartridge, other = begun(5), begun(6)
         before = whole(other)
@@ -303,12 +349,15 @@ class BadInput(unittest.TestCase):
         for name, words in uses.items():
             with self.assertRaisesRegex(ValueError, "the cartridge is closed"):
                 getattr(cartridge, name)(**words) if isinstance(words, dict) else getattr(cartridge, name)(*words)
+        for count in ("started", "ended"):
+            with self.assertRaisesRegex(ValueError, "the cartridge is closed"):
+                getattr(cartridge, count)
         with self.assertRaisesRegex(ValueError, "the cartridge is closed"):
             with cartridge:
                 pass
         self.assertEqual(whole(other), before)
         methods = {name for name in vars(Cartridge) if not name.startswith("_")}
-        self.assertEqual(methods, {"close", "restore", *uses})
+        self.assertEqual(methods, {"close", "restore", "started", "ended", *uses})
 
 
 class Finding(unittest.TestCase):

@@ -8,7 +8,7 @@ import { fileURLToPath } from "node:url";
 import * as gulxinett from "../gulxinett.js";
 import { Memory } from "../memory.js";
 
-const { FRAME_BYTES, PICTURE_BYTES, PLATE_BYTES, RAM_BANK, REGISTERS, ROM_BANK, Refusal, STATE_BYTES, load } = gulxinett;
+const { FRAME_BYTES, LAYOUT, PICTURE_BYTES, PLATE_BYTES, RAM_BANK, REGISTERS, ROM_BANK, Refusal, STATE_BYTES, layoutOf, load } = gulxinett;
 const place = new URL("../gulxinett.wasm", import.meta.url);
 const bytes = readFileSync(place);
 const { Cartridge, picture } = await load();
@@ -193,12 +193,12 @@ function choices() {
   cartridge.choose({ light: 1, level: 7 });
   const low = [0x8c, 0x98, 0xac];
   const { state } = cartridge.save();
-  assert.deepEqual([...state.subarray(10, 12), ...state.subarray(14, 17)], [3, 0, ...low]);
-  const written = (place) => place === 10 || place === 11 || (place >= 14 && place < 62);
+  assert.deepEqual([...state.subarray(15, 17), ...state.subarray(19, 22)], [3, 0, ...low]);
+  const written = (place) => place === 15 || place === 16 || (place >= 19 && place < 67);
   state.forEach((byte, place) => assert.ok(written(place) || byte === before.state[place], `byte ${place}`));
   assert.deepEqual(cartridge.save(), { ...before, state });
   const line = (address, value) => `02${address.toString(16).toUpperCase()}${Buffer.from([value]).toString("hex").toUpperCase()}\n`;
-  const register = (number) => line(0xa000 + number, state[8 + number]);
+  const register = (number) => line(0xa000 + number, state[13 + number]);
   const matrix = Array.from({ length: 48 }, (_, place) => register(6 + place)).join("");
   const due = line(0x4000, 0x10) + register(2) + register(3) + matrix + line(0x4000, 0x05);
   const recorded = () => Buffer.from(cartridge.recording().subarray(start)).toString();
@@ -212,7 +212,7 @@ function choices() {
   assert.equal(recorded(), due);
   cartridge.choose({ light: 1, level: 7, dithering: false, exposure: 0x1234 });
   const plain = cartridge.save().state;
-  assert.deepEqual([...plain.subarray(10, 12)], [0x12, 0x34]);
+  assert.deepEqual([...plain.subarray(15, 17)], [0x12, 0x34]);
   assert.deepEqual([...plain.subarray(14, 62)], Array.from({ length: 16 }, () => low).flat());
   assert.equal(cartridge.inspect(), null);
   assert.equal(cartridge.tick(0xffff_ffff), TOTAL - 20_000);
@@ -413,7 +413,7 @@ function badSaves() {
   const patched = (place, byte) => Uint8Array.from(save.state, (old, at) => (at === place ? byte : old));
   for (const length of [0, 1, STATE_BYTES - 1]) refused(1, () => Cartridge.restore({ ...save, state: save.state.slice(0, length) }));
   refused(1, () => Cartridge.restore({ ...save, state: new Uint8Array(STATE_BYTES + 1) }));
-  for (const [place, byte] of [[0, 2], [1, 64], [2, 32], [3, 0], [3, 2], [7, 255], [8, 8]]) {
+  for (const [place, byte] of [[0, 1], [1, 2], [2, 64], [3, 32], [4, 0], [4, 2], [8, 255], [13, 8]]) {
     refused(1, () => Cartridge.restore({ ...save, state: patched(place, byte) }));
   }
   for (const length of [0, RAM_BANK - 1, 3 * RAM_BANK]) refused(3, () => Cartridge.restore({ ...save, ram: new Uint8Array(length) }));
@@ -431,6 +431,58 @@ function badSaves() {
   say("saves cut short, of another size or impossible: refused by number, and nothing changed");
 }
 
+/** The two counts: one more at a start and at an end, none at a stop or a resume, and from 65,535 to 0. */
+function counts() {
+  const cartridge = new Cartridge();
+  const both = ({ started, ended }) => [started, ended];
+  cartridge.write(0x4000, 0x10);
+  assert.deepEqual(both(cartridge), [0, 0]);
+  for (const serial of [1, 2]) {
+    cartridge.write(0xa000, 1);
+    cartridge.tick(20_000);
+    assert.deepEqual(both(cartridge), [serial, serial - 1]);
+    cartridge.write(0xa000, 0);
+    cartridge.write(0xa000, 1);
+    cartridge.tick(1_000_000);
+    assert.deepEqual(both(cartridge), [serial, serial]);
+  }
+  const save = cartridge.save();
+  save.state.set([0xff, 0xff, 0xfe, 0xff], 9);
+  const worn = Cartridge.restore(save);
+  assert.deepEqual(both(worn), [0xffff, 0xfffe]);
+  worn.write(0xa000, 1);
+  worn.tick(1_000_000);
+  assert.deepEqual(both(worn), [0, 0xffff]);
+  cartridge.reset();
+  assert.deepEqual(both(cartridge), [0, 0]);
+  cartridge.close();
+  worn.close();
+  say("captures started and ended: counted, not at a resume, and from 65,535 to 0");
+}
+
+/** A state that another version saved is refused, with a sentence that says so. */
+function layouts() {
+  const cartridge = begin(new Cartridge(), 4);
+  cartridge.tick(20_000);
+  const save = cartridge.save();
+  assert.equal(layoutOf(save.state), LAYOUT);
+  const before = readFileSync(new URL("../../../tests/data/layout-1.state", import.meta.url));
+  const later = Uint8Array.from(save.state, (byte, place) => (place === 0 ? LAYOUT + 1 : byte));
+  for (const [layout, state] of [[1, new Uint8Array(before)], [LAYOUT + 1, later]]) {
+    assert.equal(layoutOf(state), layout);
+    const sentence = `the state is of layout ${layout}, and this program reads layout ${LAYOUT}: another version saved it`;
+    assert.throws(() => Cartridge.restore({ ...save, state }), { name: "Refusal", number: 1, message: sentence });
+  }
+  for (const none of [[], [0], new Array(STATE_BYTES).fill(1)]) {
+    const state = Uint8Array.from(none);
+    assert.equal(layoutOf(state), null);
+    assert.throws(() => Cartridge.restore({ ...save, state }), { number: 1, message: "the state record can't exist" });
+  }
+  assert.deepEqual(cartridge.save(), save);
+  cartridge.close();
+  say("a state of another layout refused by 1, and why");
+}
+
 function closed() {
   const [cartridge, other] = [begin(new Cartridge(), 5), begin(new Cartridge(), 6)];
   cartridge.close();
@@ -443,8 +495,10 @@ function closed() {
   };
   for (const [name, words] of Object.entries(uses)) throws(Error, "the cartridge is closed", () => cartridge[name](...words));
   throws(Error, "the cartridge is closed", () => cartridge.picture(frame(1), registers));
+  const counts = ["started", "ended"];
+  for (const name of counts) throws(Error, "the cartridge is closed", () => cartridge[name]);
   assert.deepEqual([whole(other), whole(next)], before);
-  assert.deepEqual(Object.getOwnPropertyNames(Cartridge.prototype).sort(), ["close", "constructor", ...Object.keys(uses)].sort());
+  assert.deepEqual(Object.getOwnPropertyNames(Cartridge.prototype).sort(), ["close", "constructor", ...counts, ...Object.keys(uses)].sort());
   say("every method of a closed cartridge: a clear error, and other cartridges keep their bytes");
 }
 
@@ -462,4 +516,6 @@ await nothingLost();
 badCalls();
 badMemory();
 badSaves();
+counts();
+layouts();
 closed();

@@ -65,8 +65,9 @@ impl Cartridge {
     /// A cartridge that goes on from a save with this ROM.
     pub fn restore_with(save: Save, rom: Vec<u8>) -> Result<Self, Refusal> {
         let record = save.state.as_slice().try_into().ok();
+        let no_record = || Refusal::of_no_record(&save.state);
         Cartridge {
-            state: record.and_then(State::decode).ok_or(Refusal::State)?,
+            state: record.and_then(State::decode).ok_or_else(no_record)?,
             rom,
             ram: save.ram,
             store: save.store,
@@ -82,6 +83,17 @@ impl Cartridge {
         self.read(0)?;
         self.tick(0)?;
         Ok(self)
+    }
+
+    /// Captures started since reset, 65,536 counting as 0; as a capture starts this becomes its plate's
+    /// serial.
+    pub fn started(&self) -> u16 {
+        self.state.started
+    }
+
+    /// Captures that reached their end since reset, counted likewise.
+    pub fn ended(&self) -> u16 {
+        self.state.ended
     }
 
     /// Resets the state; RAM, frame store and image stay.

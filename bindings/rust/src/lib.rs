@@ -18,10 +18,12 @@ mod recorder;
 mod state;
 
 pub use cartridge::{Cartridge, Save};
-pub use state::State;
+pub use state::{layout_of, State};
 
 /// Bytes of the state record.
-pub const STATE_BYTES: usize = 116;
+pub const STATE_BYTES: usize = 121;
+/// The layout of these bytes, which their first one says; bytes of another layout are refused as 1.
+pub const LAYOUT: u8 = 2;
 /// Camera registers.
 pub const REGISTERS: usize = 54;
 /// Bytes in one ROM bank.
@@ -43,32 +45,51 @@ pub const LINE_BYTES: usize = 261;
 
 /// Why a call is refused; the number of each case is the interface's.
 #[derive(Clone, Copy, Debug, PartialEq, Eq, PartialOrd, Ord)]
-#[repr(u8)]
 pub enum Refusal {
     /// The state record can't exist.
-    State = 1,
+    State,
+    /// The state's bytes are of this layout: another version saved them. Its number is 1 too.
+    Layout(u8),
     /// The ROM length is not allowed.
-    Rom = 2,
+    Rom,
     /// The RAM length is not allowed.
-    Ram = 3,
+    Ram,
     /// The image or the frame store is not 16,384 bytes.
-    Frame = 4,
+    Frame,
     /// The address is outside 0000-7FFF and A000-BFFF.
-    Address = 5,
+    Address,
     /// The script line, or the image row for one, is malformed.
-    Line = 6,
+    Line,
     /// The room lent for what is written is too short.
-    Room = 7,
+    Room,
     /// The file is not one that can be read.
-    File = 8,
+    File,
     /// The light set of a choice is above 1, or its level above 15.
-    Choice = 9,
+    Choice,
 }
 
 impl Refusal {
     /// The interface's number, 1 to 9.
     pub const fn number(self) -> u8 {
-        self as u8
+        match self {
+            Refusal::State | Refusal::Layout(_) => 1,
+            Refusal::Rom => 2,
+            Refusal::Ram => 3,
+            Refusal::Frame => 4,
+            Refusal::Address => 5,
+            Refusal::Line => 6,
+            Refusal::Room => 7,
+            Refusal::File => 8,
+            Refusal::Choice => 9,
+        }
+    }
+
+    /// The refusal of bytes that are no record: where they are of another layout, it says so.
+    fn of_no_record(state: &[u8]) -> Refusal {
+        match layout_of(state) {
+            Some(layout) if layout != LAYOUT => Refusal::Layout(layout),
+            _ => Refusal::State,
+        }
     }
 
     /// The refusal of a number; none outside 1 to 9.
@@ -92,6 +113,12 @@ impl std::fmt::Display for Refusal {
     fn fmt(&self, f: &mut std::fmt::Formatter<'_>) -> std::fmt::Result {
         f.write_str(match self {
             Refusal::State => "the state record can't exist",
+            Refusal::Layout(layout) => {
+                return write!(
+                    f,
+                    "the state is of layout {layout}, and this program reads layout {LAYOUT}: another version saved it"
+                )
+            }
             Refusal::Rom => "the ROM length is not allowed",
             Refusal::Ram => "the RAM length is not allowed",
             Refusal::Frame => "the image or the frame store is not 16,384 bytes",
@@ -135,7 +162,7 @@ pub struct Element {
 pub fn reset() -> State {
     let mut record = [0; STATE_BYTES];
     let refused = bytes::reset(&mut record).result().is_err();
-    assert!(!refused, "a record of 116 bytes is reset");
+    assert!(!refused, "a record of 121 bytes is reset");
     State::decode(&record).expect("reset writes a record")
 }
 

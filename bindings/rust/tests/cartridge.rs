@@ -1,8 +1,8 @@
 //! The owner of a cartridge's memory: a save picked up by another, and what bad input gets.
 
 use gulxinett::{
-    bytes, picture, Cartridge, Choice, Element, Refusal, Save, FRAME_BYTES, PICTURE_BYTES,
-    PLATE_BYTES, RAM_BANK, REGISTERS, ROM_BANK, STATE_BYTES,
+    bytes, layout_of, picture, Cartridge, Choice, Element, Refusal, Save, FRAME_BYTES, LAYOUT,
+    PICTURE_BYTES, PLATE_BYTES, RAM_BANK, REGISTERS, ROM_BANK, STATE_BYTES,
 };
 
 const TOTAL: u32 = 32_958 + 16 * 0x80;
@@ -186,6 +186,48 @@ fn memory_of_a_wrong_length() {
     }
 }
 
+/// One more at a start and at an end, none at a stop or a resume, and from 65,535 to 0.
+#[test]
+fn captures_are_counted() -> Result<(), Refusal> {
+    let mut cartridge = Cartridge::default();
+    cartridge.write(0x4000, 0x10)?;
+    for serial in [1, 2] {
+        cartridge.write(0xA000, 1)?;
+        cartridge.tick(20_000)?;
+        assert_eq!((cartridge.started(), cartridge.ended()), (serial, serial - 1));
+        cartridge.write(0xA000, 0)?;
+        cartridge.write(0xA000, 1)?;
+        cartridge.tick(1_000_000)?;
+        assert_eq!((cartridge.started(), cartridge.ended()), (serial, serial));
+    }
+    let mut save = cartridge.save();
+    save.state[9..13].copy_from_slice(&[0xFF, 0xFF, 0xFE, 0xFF]);
+    let mut worn = Cartridge::restore(save)?;
+    worn.write(0xA000, 1)?;
+    worn.tick(1_000_000)?;
+    assert_eq!((worn.started(), worn.ended()), (0, 0xFFFF));
+    cartridge.reset();
+    assert_eq!((cartridge.started(), cartridge.ended()), (0, 0));
+    Ok(())
+}
+
+/// A state that another version saved is refused, with a sentence that says so.
+#[test]
+fn saves_of_another_layout() {
+    let good = half_way().save();
+    assert_eq!(layout_of(&good.state), Some(LAYOUT));
+    let before = include_bytes!("../../../tests/data/layout-1.state").to_vec();
+    let later = [&[LAYOUT + 1], &good.state[1..]].concat();
+    for (layout, state) in [(1, before), (LAYOUT + 1, later)] {
+        assert_eq!(layout_of(&state), Some(layout));
+        let save = Save { state, ..good.clone() };
+        let refusal = Cartridge::restore(save).expect_err("it is of another layout");
+        assert_eq!((refusal, refusal.number()), (Refusal::Layout(layout), 1));
+        let said = format!("the state is of layout {layout}, and this program reads layout {LAYOUT}");
+        assert_eq!(refusal.to_string(), said + ": another version saved it");
+    }
+}
+
 #[test]
 fn saves_that_are_none() {
     let good = half_way().save();
@@ -199,8 +241,8 @@ fn saves_that_are_none() {
         let cut = restored(&|save| save.state.resize(length, 0));
         assert_eq!(cut, Err(Refusal::State));
     }
-    assert_eq!(restored(&|save| save.state[3] = 2), Err(Refusal::State));
-    assert_eq!(restored(&|save| save.state[1] = 64), Err(Refusal::State));
+    assert_eq!(restored(&|save| save.state[4] = 2), Err(Refusal::State));
+    assert_eq!(restored(&|save| save.state[2] = 64), Err(Refusal::State));
     for length in [0, RAM_BANK - 1, 3 * RAM_BANK] {
         let cut = restored(&|save| save.ram.resize(length, 0));
         assert_eq!(cut, Err(Refusal::Ram));

@@ -18,6 +18,8 @@ fn reset_state() {
         elapsed: 0,
         registers: [0; REGISTERS],
         taken: [0; REGISTERS],
+        started: 0,
+        ended: 0,
     };
     assert_eq!(reset(), state);
     assert_eq!(State::decode(&state.encode()), Some(state));
@@ -25,19 +27,22 @@ fn reset_state() {
 
 #[test]
 fn records_have_fields_apart() {
-    let mut bytes = [0; 116];
+    let mut bytes = [0; 121];
     for (place, byte) in bytes.iter_mut().enumerate() {
         *byte = place as u8;
     }
-    (bytes[0], bytes[3]) = (1, 1);
+    (bytes[0], bytes[1], bytes[4]) = (2, 1, 1);
     let state = State::decode(&bytes).expect("the flags are 0 or 1");
     assert_eq!(
         (state.rom_bank, state.ram_select, state.elapsed),
-        (1, 2, 0x0706_0504)
+        (2, 3, 0x0807_0605)
     );
-    assert_eq!((state.registers[0], state.taken[53]), (8, 115));
+    assert_eq!((state.started, state.ended), (0x0A09, 0x0C0B));
+    assert_eq!((state.registers[0], state.taken[53]), (13, 120));
     assert_eq!(state.encode(), bytes);
-    bytes[3] = 2;
+    bytes[4] = 2;
+    assert_eq!(State::decode(&bytes), None);
+    (bytes[4], bytes[0]) = (1, 1);
     assert_eq!(State::decode(&bytes), None);
 }
 

@@ -8,7 +8,6 @@
 
 use gulxinett::{
     picture, Cartridge, Save, FRAME_BYTES, PICTURE_BYTES, RAM_BANK, REGISTERS, ROM_BANK,
-    STATE_BYTES,
 };
 use std::error::Error;
 use std::process::ExitCode;
@@ -22,11 +21,9 @@ type Outcome<T> = Result<T, Box<dyn Error>>;
 /// A cartridge from the file: state, RAM and frame store, one after the other.
 fn load(path: &str) -> Outcome<Cartridge> {
     let saved = std::fs::read(path)?;
-    ensure(
-        saved.len() == STATE_BYTES + RAM_BANK + FRAME_BYTES,
-        "the file has another size",
-    )?;
-    let (state, memory) = saved.split_at(STATE_BYTES);
+    let size = saved.len().saturating_sub(RAM_BANK + FRAME_BYTES);
+    ensure(size > 0, "the file has another size")?;
+    let (state, memory) = saved.split_at(size);
     let (ram, store) = memory.split_at(RAM_BANK);
     let [state, ram, store] = [state, ram, store].map(<[u8]>::to_vec);
     Ok(Cartridge::restore(Save { state, ram, store })?)
