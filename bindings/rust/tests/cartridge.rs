@@ -194,7 +194,10 @@ fn captures_are_counted() -> Result<(), Refusal> {
     for serial in [1, 2] {
         cartridge.write(0xA000, 1)?;
         cartridge.tick(20_000)?;
-        assert_eq!((cartridge.started(), cartridge.ended()), (serial, serial - 1));
+        assert_eq!(
+            (cartridge.started(), cartridge.ended()),
+            (serial, serial - 1)
+        );
         cartridge.write(0xA000, 0)?;
         cartridge.write(0xA000, 1)?;
         cartridge.tick(1_000_000)?;
@@ -220,10 +223,14 @@ fn saves_of_another_layout() {
     let later = [&[LAYOUT + 1], &good.state[1..]].concat();
     for (layout, state) in [(1, before), (LAYOUT + 1, later)] {
         assert_eq!(layout_of(&state), Some(layout));
-        let save = Save { state, ..good.clone() };
+        let save = Save {
+            state,
+            ..good.clone()
+        };
         let refusal = Cartridge::restore(save).expect_err("it is of another layout");
         assert_eq!((refusal, refusal.number()), (Refusal::Layout(layout), 1));
-        let said = format!("the state is of layout {layout}, and this program reads layout {LAYOUT}");
+        let said =
+            format!("the state is of layout {layout}, and this program reads layout {LAYOUT}");
         assert_eq!(refusal.to_string(), said + ": another version saved it");
     }
 }
