@@ -32,7 +32,7 @@ const FIRST_LAYOUT_BYTES: usize = 116;
 /// no record's.
 pub fn layout_of(state: &[u8]) -> Option<u8> {
     match state {
-        [layout @ 2.., ..] => Some(*layout),
+        [layout, ..] if *layout >= 2 => Some(*layout),
         _ if state.len() == FIRST_LAYOUT_BYTES => Some(1),
         _ => None,
     }
