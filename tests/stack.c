@@ -54,7 +54,7 @@ static void everything(void)
             tick(401);
         tick(UINT32_MAX);
         gulxinett_inspect(state, sizeof state);
-        gulxinett_picture(image, sizeof image, state + 8, picture);
+        gulxinett_picture(image, sizeof image, state + 13, picture);
         write_byte(0x4000, 0);
         gulxinett_read(state, sizeof state, rom, sizeof rom, ram, sizeof ram, 0xA100);
         gulxinett_read(state, sizeof state, rom, sizeof rom, ram, sizeof ram, 0x0000);
