@@ -31,7 +31,7 @@ pub use lines::{Lines, LONGEST_LINE};
 pub use picture::{picture, Plate, PICTURE_HEIGHT, PICTURE_WIDTH, PLATE_BYTES, PLATE_OFFSET};
 pub use refusal::Refusal;
 pub use script::{Frame, Session};
-pub use state::{State, RECORD_BYTES, REGISTERS};
+pub use state::{State, LAYOUT, RECORD_BYTES, REGISTERS};
 
 /// Bytes in one ROM bank.
 pub const ROM_BANK: usize = 16_384;

@@ -5,7 +5,9 @@ use crate::{Refusal, Timing};
 /// Camera registers.
 pub const REGISTERS: usize = 54;
 /// Bytes of the record as [`State::to_bytes`] lays it out.
-pub const RECORD_BYTES: usize = 8 + 2 * REGISTERS;
+pub const RECORD_BYTES: usize = 13 + 2 * REGISTERS;
+/// The number of that layout, which the record begins with.
+pub const LAYOUT: u8 = 2;
 
 const SELECT_REGISTERS: u8 = 0x10;
 const CAPTURE_BIT: u8 = 1;
@@ -30,7 +32,7 @@ pub struct State {
     /// Captures started since reset, 65,536 counting as 0.
     pub started: u16,
     /// Captures that reached their end since reset, counted likewise.
-    pub finished: u16,
+    pub ended: u16,
 }
 
 impl State {
@@ -44,7 +46,7 @@ impl State {
         registers: [0; REGISTERS],
         taken: [0; REGISTERS],
         started: 0,
-        finished: 0,
+        ended: 0,
     };
 
     /// Whether some history of calls could lead here, by the paper's list.
@@ -110,37 +112,41 @@ impl State {
         self.held = false;
         self.elapsed = 0;
         self.taken = [0; REGISTERS];
-        self.finished = self.finished.wrapping_add(1);
+        self.ended = self.ended.wrapping_add(1);
     }
 
-    /// The record as 116 bytes, numbers little-endian; the two counts are not among them.
+    /// The record as 121 bytes, numbers little-endian.
     pub fn to_bytes(&self) -> [u8; RECORD_BYTES] {
         let mut bytes = [0; RECORD_BYTES];
-        bytes[0] = self.ram_enabled.into();
-        bytes[1] = self.rom_bank;
-        bytes[2] = self.ram_select;
-        bytes[3] = self.held.into();
-        bytes[4..8].copy_from_slice(&self.elapsed.to_le_bytes());
-        bytes[8..62].copy_from_slice(&self.registers);
-        bytes[62..].copy_from_slice(&self.taken);
+        bytes[0] = LAYOUT;
+        bytes[1] = self.ram_enabled.into();
+        bytes[2] = self.rom_bank;
+        bytes[3] = self.ram_select;
+        bytes[4] = self.held.into();
+        bytes[5..9].copy_from_slice(&self.elapsed.to_le_bytes());
+        bytes[9..11].copy_from_slice(&self.started.to_le_bytes());
+        bytes[11..13].copy_from_slice(&self.ended.to_le_bytes());
+        bytes[13..67].copy_from_slice(&self.registers);
+        bytes[67..].copy_from_slice(&self.taken);
         bytes
     }
 
-    /// The record from its bytes, both counts 0; none for another length or a flag above 1.
+    /// The record from its bytes; none for another length or layout or a flag above 1.
     pub fn from_bytes(bytes: &[u8]) -> Option<State> {
         let bytes: &[u8; RECORD_BYTES] = bytes.try_into().ok()?;
-        if bytes[0] > 1 || bytes[3] > 1 {
+        if bytes[0] != LAYOUT || bytes[1] > 1 || bytes[4] > 1 {
             return None;
         }
         Some(State {
-            ram_enabled: bytes[0] == 1,
-            rom_bank: bytes[1],
-            ram_select: bytes[2],
-            held: bytes[3] == 1,
-            elapsed: u32::from_le_bytes([bytes[4], bytes[5], bytes[6], bytes[7]]),
-            registers: bytes[8..62].try_into().ok()?,
-            taken: bytes[62..].try_into().ok()?,
-            ..State::RESET
+            ram_enabled: bytes[1] == 1,
+            rom_bank: bytes[2],
+            ram_select: bytes[3],
+            held: bytes[4] == 1,
+            elapsed: u32::from_le_bytes([bytes[5], bytes[6], bytes[7], bytes[8]]),
+            registers: bytes[13..67].try_into().ok()?,
+            taken: bytes[67..].try_into().ok()?,
+            started: u16::from_le_bytes([bytes[9], bytes[10]]),
+            ended: u16::from_le_bytes([bytes[11], bytes[12]]),
         })
     }
 }

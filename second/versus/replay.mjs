@@ -10,6 +10,8 @@ const TICK = 3;
 const LENT = 0xff;
 const END = 0xfe;
 const UNDRAWN = 0xa5;
+/** Where the state record says whether a capture is held. */
+const HELD = 4;
 /** What stands between two memories, so that a byte written beside one is seen. */
 const FENCE = 0xc3;
 const FENCE_BYTES = 64;
@@ -157,7 +159,7 @@ function replay(modulePath, answersPath) {
   const steps = new Steps(answersPath);
   const memories = new Memories(exports.memory, exports.memory.buffer.byteLength);
   const kind = kinds(steps, memories, exports);
-  const held = () => memories.here[memories.parts[0].place + 3] === 1;
+  const held = () => memories.here[memories.parts[0].place + HELD] === 1;
   const patch = () => [steps.word(), steps.take(steps.word())];
   let [calls, refusals, captures, started] = [0, 0, 0, false];
   for (;;) {

@@ -309,13 +309,21 @@ fn inspection() {
 fn records() {
     let mut state = busy();
     (state.elapsed, state.rom_bank, state.ram_select) = (0x0102_0304, 5, 6);
+    (state.started, state.ended) = (0x0807, 0x0A09);
     let bytes = state.to_bytes();
-    assert_eq!(bytes[..9], [0, 5, 6, 1, 4, 3, 2, 1, 7]);
+    let start = [2, 0, 5, 6, 1, 4, 3, 2, 1, 7, 8, 9, 10];
+    assert_eq!(
+        bytes[..],
+        [&start[..], &state.registers, &state.taken].concat()
+    );
     assert_eq!(State::from_bytes(&bytes), Some(state));
-    assert_eq!(State::from_bytes(&bytes[1..]), None);
-    for flag in [0, 3] {
+    let first_layout = [&bytes[1..9], &bytes[13..]].concat();
+    for other in [&bytes[1..], &bytes[..120], &first_layout, &[]] {
+        assert_eq!(State::from_bytes(other), None);
+    }
+    for (place, byte) in [(0, 0), (0, 1), (0, 3), (0, 255), (1, 2), (4, 2), (4, 255)] {
         let mut bytes = bytes;
-        bytes[flag] = 2;
+        bytes[place] = byte;
         assert_eq!(State::from_bytes(&bytes), None);
     }
 }

@@ -7,15 +7,15 @@ use crate::{inspect, read, tick, write, Refusal, State};
 const FRAME: [u8; 16_384] = [0; 16_384];
 
 fn counts(state: &State) -> (u16, u16) {
-    (state.started, state.finished)
+    (state.started, state.ended)
 }
 
 /// A controller whose window shows the registers.
-fn open(started: u16, finished: u16) -> State {
+fn open(started: u16, ended: u16) -> State {
     State {
         ram_select: 16,
         started,
-        finished,
+        ended,
         ..State::RESET
     }
 }
@@ -74,7 +74,7 @@ fn any_pair_can_exist() {
         for base in [State::RESET, started(&registers)] {
             let state = State {
                 started: counts.0,
-                finished: counts.1,
+                ended: counts.1,
                 ..base
             };
             assert!(state.can_exist());

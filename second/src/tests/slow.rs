@@ -133,7 +133,7 @@ pub fn slow_tick(state: &mut State, ram: &mut [u8], store: &[u8], cycles: u32) -
             state.held = false;
             state.elapsed = 0;
             state.taken = [0; 54];
-            state.finished = ((state.finished as u32 + 1) % 65_536) as u16;
+            state.ended = ((state.ended as u32 + 1) % 65_536) as u16;
         }
     }
     running

@@ -5,7 +5,7 @@ use crate::call::{Call, Lent};
 use crate::lines;
 use crate::random::Random;
 use crate::sides::{Beginning, Pair};
-use crate::sweep::{export_room, EXPOSURES};
+use crate::sweep::{export_room, first_layout, EXPOSURES};
 use second::{State, Timing};
 use std::collections::VecDeque;
 
@@ -127,8 +127,13 @@ impl<'a> History<'a> {
                         record: self.held_record(),
                     }
                 }
-                13..=14 => return Call::Reset,
-                15..=17 => return self.picture(),
+                13 => {
+                    let record = self.free_record();
+                    self.planned.push_back(Call::Put { record });
+                    self.plan_capture();
+                }
+                14..=15 => return Call::Reset,
+                16..=17 => return self.picture(),
                 18..=30 => return self.image(),
                 31..=57 => return Call::Inspect,
                 58..=61 => return self.choose(),
@@ -301,7 +306,30 @@ impl<'a> History<'a> {
                 .min(total - 1),
             registers,
             taken,
+            started: self.count(),
+            ended: self.count(),
         };
+        Box::new(state.to_bytes())
+    }
+
+    /// A count of captures, close to its wrapping more often than not.
+    fn count(&mut self) -> u16 {
+        match self.random.below(3) {
+            0 => self.random.next() as u16,
+            _ => self.random.pick(&[0, 1, 0xFF, 0x100, 0xFFFE, 0xFFFF]),
+        }
+    }
+
+    /// A record of no capture, with any counts.
+    fn free_record(&mut self) -> Box<[u8]> {
+        let mut state = State {
+            registers: self.registers(),
+            ram_select: 0x10,
+            started: self.count(),
+            ended: self.count(),
+            ..State::RESET
+        };
+        state.registers[0] &= 6;
         Box::new(state.to_bytes())
     }
 
@@ -310,39 +338,39 @@ impl<'a> History<'a> {
         let mut record = if self.random.once_in(2) {
             self.held_record()
         } else {
-            let mut state = State {
-                registers: self.registers(),
-                ..State::RESET
-            };
-            state.registers[0] &= 6;
-            Box::new(state.to_bytes())
+            self.free_record()
         };
         let random = &mut *self.random;
-        let held = record[3] == 1;
-        match random.below(if held { 8 } else { 9 }) {
-            0 => record[1] = 64 + random.below(192) as u8,
-            1 => record[2] = 32 + random.below(224) as u8,
-            2 => record[8] = 8 + random.below(248) as u8,
-            3 => record[0] = 2 + random.below(254) as u8,
-            4 => record[3] = 2 + random.below(254) as u8,
+        let held = record[4] == 1;
+        match random.below(if held { 10 } else { 11 }) {
+            0 => record[2] = 64 + random.below(192) as u8,
+            1 => record[3] = 32 + random.below(224) as u8,
+            2 => record[13] = 8 + random.below(248) as u8,
+            3 => record[1] = 2 + random.below(254) as u8,
+            4 => record[4] = 2 + random.below(254) as u8,
             5 => {
-                let length = random.pick(&[0, 1, 62, 115]);
+                let length = random.pick(&[0, 1, 67, 115, 116, 120]);
                 return record[..length].into();
             }
             6 => return [&record[..], &[0]].concat().into(),
-            7 if held => match random.below(3) {
-                0 => record[62] &= 6,
-                1 => record[62] |= 8 << random.below(5),
+            7 => {
+                let later = 3 + random.below(253) as u8;
+                record[0] = random.pick(&[0, 1, 3, later]);
+            }
+            8 => return first_layout(&record).into(),
+            9 if held => match random.below(3) {
+                0 => record[67] &= 6,
+                1 => record[67] |= 8 << random.below(5),
                 _ => {
                     let mut taken = [0; 54];
-                    taken.copy_from_slice(&record[62..]);
+                    taken.copy_from_slice(&record[67..]);
                     let late = Timing::of(&taken).total() + random.pick(&[0, 1, 2, 1 << 31]);
-                    record[4..8].copy_from_slice(&late.to_le_bytes());
+                    record[5..9].copy_from_slice(&late.to_le_bytes());
                 }
             },
-            7 => record[8] |= 1,
-            _ if random.once_in(2) => record[4 + random.below(4) as usize] = 1,
-            _ => record[62 + random.below(54) as usize] = 1 << random.below(8),
+            9 => record[13] |= 1,
+            _ if random.once_in(2) => record[5 + random.below(4) as usize] = 1,
+            _ => record[67 + random.below(54) as usize] = 1 << random.below(8),
         }
         record
     }

@@ -76,6 +76,11 @@ fn parting(archive: &Side, second: &Side) -> Option<String> {
         .or_else(|| parted("bytes given out", &archive.out, &second.out))
 }
 
+/// The 116 bytes that a record had in layout 1: no number of the layout and no counts.
+pub fn first_layout(record: &[u8]) -> Vec<u8> {
+    [&record[1..9], &record[13..]].concat()
+}
+
 /// Records that are refused or not, one for each reason.
 fn records() -> Vec<Choice<Vec<u8>>> {
     let free = State::RESET;
@@ -96,6 +101,14 @@ fn records() -> Vec<Choice<Vec<u8>>> {
             .for_each(|&(place, byte)| bytes[place] = byte);
         bytes
     };
+    let counted = |state: State, started, ended| {
+        let state = State {
+            started,
+            ended,
+            ..state
+        };
+        state.to_bytes().to_vec()
+    };
     let late = |elapsed: u32| {
         let mut state = held;
         state.elapsed = elapsed;
@@ -106,36 +119,47 @@ fn records() -> Vec<Choice<Vec<u8>>> {
         patched(free, &[]),
         patched(held, &[]),
         patched(stopped, &[]),
-        patched(free, &[(0, 1), (1, 63), (2, 31), (8, 6), (61, 255)]),
-        patched(held, &[(115, 255), (61, 255), (0, 1)]),
+        patched(free, &[(1, 1), (2, 63), (3, 31), (13, 6), (66, 255)]),
+        patched(held, &[(120, 255), (66, 255), (1, 1)]),
+        counted(free, 0xFFFF, 0xFFFF),
+        counted(free, 0, 1),
+        counted(held, 0xFFFF, 0),
+        counted(stopped, 0x1234, 0xFFFF),
         late(total - 1),
         late(0),
     ] {
         records.push((good, false));
     }
     for bad in [
-        patched(free, &[(1, 64)]),
-        patched(held, &[(1, 255)]),
-        patched(free, &[(2, 32)]),
-        patched(stopped, &[(2, 255)]),
-        patched(free, &[(8, 8)]),
-        patched(held, &[(8, 255)]),
-        patched(free, &[(8, 1)]),
-        patched(free, &[(8, 7)]),
-        patched(free, &[(4, 1)]),
-        patched(free, &[(7, 128)]),
-        patched(free, &[(62, 1)]),
-        patched(free, &[(115, 1)]),
-        patched(held, &[(62, 4)]),
-        patched(held, &[(62, 13)]),
-        patched(held, &[(0, 2)]),
-        patched(held, &[(3, 3)]),
+        patched(free, &[(2, 64)]),
+        patched(held, &[(2, 255)]),
+        patched(free, &[(3, 32)]),
+        patched(stopped, &[(3, 255)]),
+        patched(free, &[(13, 8)]),
+        patched(held, &[(13, 255)]),
+        patched(free, &[(13, 1)]),
+        patched(free, &[(13, 7)]),
+        patched(free, &[(5, 1)]),
+        patched(free, &[(8, 128)]),
+        patched(free, &[(67, 1)]),
+        patched(free, &[(120, 1)]),
+        patched(held, &[(67, 4)]),
+        patched(held, &[(67, 13)]),
+        patched(held, &[(1, 2)]),
+        patched(held, &[(4, 3)]),
+        patched(free, &[(1, 255)]),
+        patched(held, &[(4, 0)]),
+        patched(free, &[(0, 0)]),
+        patched(held, &[(0, 1)]),
+        patched(stopped, &[(0, 3)]),
         patched(free, &[(0, 255)]),
-        patched(held, &[(3, 0)]),
+        first_layout(&patched(free, &[])),
+        first_layout(&patched(held, &[])),
+        first_layout(&patched(free, &[(1, 2)])),
         late(total),
         late(u32::MAX),
         Vec::new(),
-        patched(free, &[])[..115].to_vec(),
+        patched(free, &[])[..120].to_vec(),
         [&patched(held, &[])[..], &[0]].concat(),
     ] {
         records.push((bad, true));
@@ -224,7 +248,7 @@ pub fn refusals(tally: &mut Tally) {
             picture: [0; 3584],
             out: empty(),
         };
-        let due = (side.state.len() != 116).then_some(1);
+        let due = (side.state.len() != second::RECORD_BYTES).then_some(1);
         tally.compare(&side, &Call::Reset, due);
         tally.compare(&side, &Call::Inspect, lowest(&[(1, no_state)]));
         sweep_reads(tally, &mut side, no_state);
