@@ -54,6 +54,8 @@ withRegisters c regs = record {
   held = c .held;
   taken = c .taken;
   elapsed = c .elapsed;
+  started = c .started;
+  ended = c .ended;
 }
 
 -- a light set above 1 or a level above 15

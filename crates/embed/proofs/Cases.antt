@@ -61,11 +61,11 @@ module _ (s ram store : List ℕ) (bytes : Bytes s) (h : isRecord s ≡ true) {r
 
 -- ---- reset
 
-pub reset-short : (s : List ℕ) → eqb (length s) 116 ≡ false → resetBytes s ≡ unread s [] []
+pub reset-short : (s : List ℕ) → eqb (length s) 121 ≡ false → resetBytes s ≡ unread s [] []
 unfolding resetBytes
 reset-short s h = simp h
 
-pub reset-done : (s : List ℕ) → eqb (length s) 116 ≡ true → resetBytes s ≡ called (packed 0 0) (encoded resetState) [] []
+pub reset-done : (s : List ℕ) → eqb (length s) 121 ≡ true → resetBytes s ≡ called (packed 0 0) (encoded resetState) [] []
 unfolding resetBytes
 reset-done s h = simp h
 

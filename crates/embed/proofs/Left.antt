@@ -42,9 +42,11 @@ unfolding decoded fourAt
 decoded-whole s b h =
     let l = record-parts s h .long in
     record {
-      registers = length-take-le 54 (drop 8 s) (simp length-drop (omega arith));
-      taken = length-take-le 54 (drop 62 s) (simp length-drop (omega arith));
-      elapsed = omega (arith, b 4, b 5, b 6, b 7);
+      registers = length-take-le 54 (drop 13 s) (simp length-drop (omega arith));
+      taken = length-take-le 54 (drop 67 s) (simp length-drop (omega arith));
+      elapsed = omega (arith, b 5, b 6, b 7, b 8);
+      started = omega (arith, b 9, b 10);
+      ended = omega (arith, b 11, b 12);
     }
 
 -- a part of bytes
@@ -61,11 +63,13 @@ taken-bytes (suc n) (x ∷ l) b (suc i) = taken-bytes n l (λ j. b (suc j)) i
 
 -- ---- a tick
 
--- 54 registers, and 54 bytes taken
+-- 54 registers, 54 bytes taken, and counts of 16 bits
 record Sized (c : Controller) : Type 0 where
   registers : length (c .registers) ≡ 54
   taken : length (c .taken) ≡ 54
   bytes : Bytes (c .taken)
+  begun : c .started < 65536
+  done : c .ended < 65536
 
 zeros : (n : ℕ) → Bytes (replicate n 0)
 zeros zero i = omega arith
@@ -78,8 +82,8 @@ cycle-sized frame w z =
     pick-ind (λ (v : Ticking). Sized (v .state)) (running (w .state))
     (λ t.
     pick-ind Sized (eqb (w .state .elapsed .0 + 1) (totalOf (w .state .taken)))
-    (λ u. record { registers = simp length-set (z .registers); taken = refl; bytes = zeros 54 })
-    (λ u. record { registers = z .registers; taken = z .taken; bytes = z .bytes }))
+    (λ u. record { registers = simp length-set (z .registers); taken = refl; bytes = zeros 54; begun = z .begun; done = omega arith })
+    (λ u. record { registers = z .registers; taken = z .taken; bytes = z .bytes; begun = z .begun; done = z .done }))
     (λ t. z)
 
 -- elapsed cycles of a record that can exist fit 32 bits: below the longest capture, or 0
@@ -105,29 +109,31 @@ ticks-whole frame ram n c e z =
       registers = y .registers;
       taken = y .taken;
       elapsed = elapsed-small (ticks frame n (from c ram) .state) (k .exists) (y .bytes);
+      started = y .begun;
+      ended = y .done;
     }
 
 -- ---- a write
 
-same-sizes : (c d : Controller) → Whole c → length (d .registers) ≡ length (c .registers) → length (d .taken) ≡ length (c .taken) → d .elapsed .0 ≡ c .elapsed .0 → Whole d
-same-sizes c d w r t e = record { registers = r ∙ w .registers; taken = t ∙ w .taken; elapsed = rw e (w .elapsed) }
+same-sizes : (c d : Controller) → Whole c → length (d .registers) ≡ length (c .registers) → length (d .taken) ≡ length (c .taken) → d .elapsed .0 ≡ c .elapsed .0 → d .started ≡ c .started → d .ended ≡ c .ended → Whole d
+same-sizes c d w r t e m n = record { registers = r ∙ w .registers; taken = t ∙ w .taken; elapsed = rw e (w .elapsed); started = rw m (w .started); ended = rw n (w .ended) }
 
 control-whole : (c : Controller) (a v : ℕ) → Whole c → Whole (controlWritten c a v)
 unfolding controlWritten withEnabled withBank withSelect
 control-whole c a v w =
     pick-ind Whole (ltb a 0x2000)
-    (λ t. pick-ind Whole (eqb v 0x0A) (λ u. same-sizes c (withEnabled c true) w refl refl refl) (λ u. pick-ind Whole (eqb v 0x00) (λ z. same-sizes c (withEnabled c false) w refl refl refl) (λ z. w)))
+    (λ t. pick-ind Whole (eqb v 0x0A) (λ u. same-sizes c (withEnabled c true) w refl refl refl refl refl) (λ u. pick-ind Whole (eqb v 0x00) (λ z. same-sizes c (withEnabled c false) w refl refl refl refl refl) (λ z. w)))
     (λ t.
-    pick-ind Whole (ltb a 0x4000) (λ u. same-sizes c (withBank c (v % 64)) w refl refl refl)
-    (λ u. pick-ind Whole (ltb a 0x6000) (λ z. same-sizes c (withSelect c (v % 32)) w refl refl refl) (λ z. w)))
+    pick-ind Whole (ltb a 0x4000) (λ u. same-sizes c (withBank c (v % 64)) w refl refl refl refl refl)
+    (λ u. pick-ind Whole (ltb a 0x6000) (λ z. same-sizes c (withSelect c (v % 32)) w refl refl refl refl refl) (λ z. w)))
 
 register-whole : (c : Controller) (i v : ℕ) → Whole c → Whole (withRegister c i v)
 unfolding withRegister
-register-whole c i v w = same-sizes c (withRegister c i v) w (simp length-set) refl refl
+register-whole c i v w = same-sizes c (withRegister c i v) w (simp length-set) refl refl refl refl
 
 begun-whole : (c : Controller) (v : ℕ) → Whole c → Whole (begun c v)
 unfolding begun
-begun-whole c v w = record { registers = simp length-set (w .registers); taken = simp length-set (w .registers); elapsed = omega arith }
+begun-whole c v w = record { registers = simp length-set (w .registers); taken = simp length-set (w .registers); elapsed = omega arith; started = omega arith; ended = w .ended }
 
 written-whole : (c : Controller) (ram store image : List ℕ) (a v : ℕ) → Whole c → Whole (byteWritten c ram store image a v .state)
 unfolding byteWritten registerWritten captureWritten
@@ -176,7 +182,7 @@ module _ (s ram store : List ℕ) (bytes : Bytes s) (h : isRecord s ≡ true) wh
 
   sized : Sized (decoded s)
   unfolding decoded
-  sized = record { registers = whole .registers; taken = whole .taken; bytes = taken-bytes 54 (drop 62 s) (dropped-bytes 62 s bytes) }
+  sized = record { registers = whole .registers; taken = whole .taken; bytes = taken-bytes 54 (drop 67 s) (dropped-bytes 67 s bytes); begun = whole .started; done = whole .ended }
 
   tick-whole : (n : ℕ) → Whole (tickMeans (decoded s) ram store n .state)
   tick-whole n = by-number (lowest (tickRows (decoded s) ram store)) refl
@@ -196,7 +202,7 @@ module _ (s ram store : List ℕ) (bytes : Bytes s) (h : isRecord s ≡ true) wh
   choose-whole light level plain exposure = by-number (lowest (chooseRows (decoded s) light level)) refl
     where
       by-number : (k : ℕ) → lowest (chooseRows (decoded s) light level) ≡ k → Whole (chooseMeans (decoded s) light level plain exposure .state)
-      by-number zero e = rw (choose-refuses (decoded s) light level plain exposure .does e) (same-sizes (decoded s) _ whole (chosen-length light level plain exposure (decoded s .registers)) refl refl)
+      by-number zero e = rw (choose-refuses (decoded s) light level plain exposure .does e) (same-sizes (decoded s) _ whole (chosen-length light level plain exposure (decoded s .registers)) refl refl refl refl)
       by-number (suc k) e = rw (choose-refuses (decoded s) light level plain exposure .kept k e) whole
 
   pub choose-left : (light level plain exposure : ℕ) → Reads (chooseBytes s light level plain exposure .state) (chooseMeans (decoded s) light level (plainIn plain) (exposureIn exposure) .state)

@@ -42,9 +42,9 @@ noRecord = packed (numberOf State) 0
 abbrev pub unread : List ℕ → List ℕ → List ℕ → Called
 unread s ram store = called noRecord s ram store
 
--- reset needs no record, only its 116 bytes
+-- reset needs no record, only its 121 bytes
 unfoldable pub resetBytes : List ℕ → Called
-resetBytes s = pick (eqb (length s) 116) (called (packed 0 0) (encoded resetState) [] []) (unread s [] [])
+resetBytes s = pick (eqb (length s) 121) (called (packed 0 0) (encoded resetState) [] []) (unread s [] [])
 
 -- bytes that are no record are refused before all others
 unfoldable pub readBytes : List ℕ → List ℕ → List ℕ → ℕ → Called

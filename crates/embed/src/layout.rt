@@ -1,4 +1,4 @@
-// The state record as bytes: 116 of them, numbers little-endian.
+// The state record as bytes, layout 2: 121 of them, numbers little-endian.
 use controller::Controller;
 use timing::Cycles;
 ghost use mathlib.Core.Path.{_≡_};
@@ -6,7 +6,7 @@ ghost use mathlib.Core.Bool.{true};
 ghost use mathlib.Core.List.{_++_};
 ghost use Prim.Native.Nat.{_+_, _<_, _≤_};
 ghost use lib.ListN.{length, take, drop};
-ghost use Rattle.embed.specs.Layout.{front, encoded, isRecord, fourAt, registersAt, decoded};
+ghost use Rattle.embed.specs.Layout.{front, encoded, isRecord, fourAt, twoAt, registersAt, decoded};
 
 // A byte as a wider number, with its bound.
 pub fn wide(x: u8) -> u32
@@ -15,20 +15,26 @@ pub fn wide(x: u8) -> u32
     x as u32
 }
 
-// The record's length.
-pub const STATE_LEN: usize = 116;
+// The number of the layout, at offset 0: bytes of another layout are no record.
+const LAYOUT: u8 = 2;
 
-// Whether bytes are a record: as many as it has, and its two flags 0 or 1.
+// The record's length.
+pub const STATE_LEN: usize = 121;
+
+// Whether bytes are a record: as many as it has, of this layout, and its two flags 0 or 1.
 pub fn is_record(state: &[u8]) -> bool
     ensures { λ r. ⌜ r ≡ isRecord (now (state .entry)) ⌝ }
 {
     if state.len() != STATE_LEN {
         return false;
     }
-    if 1 < state[0] {
+    if state[0] != LAYOUT {
         return false;
     }
-    state[3] <= 1
+    if 1 < state[1] {
+        return false;
+    }
+    state[4] <= 1
 }
 
 // Four bytes from a place on as one number, the lowest first.
@@ -40,6 +46,14 @@ fn four_at(state: &[u8], at: usize) -> u32
         + 256 * wide(state[at + 1])
         + 65536 * wide(state[at + 2])
         + 16777216 * wide(state[at + 3])
+}
+
+// Two bytes from a place on as one number, the lowest first.
+fn two_at(state: &[u8], at: usize) -> u16
+    requires { ⌜ at + 2 ≤ length (now state) ⌝ }
+    ensures { λ r. ⌜ r ≡ twoAt (now (state .entry)) at ⌝ }
+{
+    (wide(state[at]) + 256 * wide(state[at + 1])) as u16
 }
 
 // 54 bytes from a place on.
@@ -59,34 +73,45 @@ pub(crate) fn decode(state: &[u8]) -> Controller
     requires { ⌜ isRecord (now state) ≡ true ⌝ }
     ensures { λ r. ⌜ r ≡ decoded (now (state .entry)) ⌝ }
 {
-    let registers = registers_at(state, 8);
-    let taken = registers_at(state, 62);
-    let elapsed = Cycles(four_at(state, 4));
+    let registers = registers_at(state, 13);
+    let taken = registers_at(state, 67);
+    let elapsed = Cycles(four_at(state, 5));
+    let started = two_at(state, 9);
+    let ended = two_at(state, 11);
     Controller {
-        enabled: state[0] == 1,
-        bank: state[1],
-        select: state[2],
+        enabled: state[1] == 1,
+        bank: state[2],
+        select: state[3],
         registers,
-        held: state[3] == 1,
+        held: state[4] == 1,
         taken,
         elapsed,
+        started,
+        ended,
     }
 }
 
-// Writes the record's first eight bytes: flags, banks, elapsed cycles.
+// Writes the record's first 13 bytes: layout number, flags, banks, elapsed cycles, captures started and ended.
 fn put_front(c: Controller, state: &mut [u8])
-    requires { ⌜ 8 ≤ length (now state) ⌝ }
-    ensures { λ _. ⌜ now (state .exit) ≡ front c ++ drop 8 (now (state .entry)) ⌝ }
+    requires { ⌜ 13 ≤ length (now state) ⌝ }
+    ensures { λ _. ⌜ now (state .exit) ≡ front c ++ drop 13 (now (state .entry)) ⌝ }
 {
     let e = c.elapsed.0;
-    state[0] = c.enabled as u8;
-    state[1] = c.bank;
-    state[2] = c.select;
-    state[3] = c.held as u8;
-    state[4] = (e % 256) as u8;
-    state[5] = (e / 256 % 256) as u8;
-    state[6] = (e / 65536 % 256) as u8;
-    state[7] = (e / 16777216 % 256) as u8;
+    let m = c.started;
+    let n = c.ended;
+    state[0] = LAYOUT;
+    state[1] = c.enabled as u8;
+    state[2] = c.bank;
+    state[3] = c.select;
+    state[4] = c.held as u8;
+    state[5] = (e % 256) as u8;
+    state[6] = (e / 256 % 256) as u8;
+    state[7] = (e / 65536 % 256) as u8;
+    state[8] = (e / 16777216 % 256) as u8;
+    state[9] = (m % 256) as u8;
+    state[10] = (m / 256 % 256) as u8;
+    state[11] = (n % 256) as u8;
+    state[12] = (n / 256 % 256) as u8;
 }
 
 // Writes 54 bytes from a place on.
@@ -101,12 +126,12 @@ fn put_registers(state: &mut [u8], at: usize, registers: [u8; 54])
 
 // Writes a record as its bytes.
 pub(crate) fn encode(c: Controller, state: &mut [u8])
-    requires { ⌜ length (now state) ≡ 116 ⌝ }
+    requires { ⌜ length (now state) ≡ 121 ⌝ }
     ensures { λ _. ⌜ now (state .exit) ≡ encoded c ⌝ }
 {
     put_front(c, state);
     let registers = c.registers;
-    put_registers(state, 8, registers);
+    put_registers(state, 13, registers);
     let taken = c.taken;
-    put_registers(state, 62, taken);
+    put_registers(state, 67, taken);
 }
