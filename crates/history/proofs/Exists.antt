@@ -33,7 +33,7 @@ module _ (c : Controller) (e : cantExist c ≡ false) where
 
   -- writes to the banks: the rest of the state stays
   exists-control : (on : Bool) (bank select : ℕ) → ltb 63 bank ≡ false → ltb 31 select ≡ false
-      → cantExist (record { enabled = on; bank = bank; select = select; registers = c .registers; held = c .held; taken = c .taken; elapsed = c .elapsed }) ≡ false
+      → cantExist (record { enabled = on; bank = bank; select = select; registers = c .registers; held = c .held; taken = c .taken; elapsed = c .elapsed; started = c .started; ended = c .ended }) ≡ false
   unfolding leftOver wrongCapture
   exists-control on bank select b s =
       exists-whole _ (record { bank = b; select = s; first = p .first; holds = p .holds; nothing = p .nothing; capture = p .capture })

@@ -14,7 +14,7 @@ use Rattle.sensor.specs.Taken.{exposureOf}
 use Rattle.laws.proofs.Pick.{pick-ind}
 use Rattle.controller.specs.declared.Controller.{Controller}
 use Rattle.timing.specs.Timing.{totalOf}
-use Rattle.controller.specs.State.{started, cantExist, resetState}
+use Rattle.controller.specs.State.{started, cantExist, resetState, oneMore}
 use Rattle.controller.specs.Capture.{begun, moved, ended, Ticking, ticks, from}
 use Rattle.controller.specs.Capture as capture
 use Rattle.controller.specs.Bus.{Left, left, onCartridge, byteWritten, controlWritten, registerWritten, storeWritten, captureWritten, ramWritten, ramWritable, withBank, withRegister, withEnabled, withSelect, isStart, registersOn}
@@ -41,7 +41,7 @@ use Rattle.history.proofs.Reachable.{Sound, reset-sound, call-sound}
 
 -- ---- a write
 
-abbrev worldOf : Left → World
+abbrev pub worldOf : Left → World
 worldOf l = record { state = l .state; ram = l .ram; store = l .store }
 
 pub write-leaves : (w : World) (image : List ℕ) (a v : ℕ) → cantExist (w .state) ≡ false
@@ -190,6 +190,8 @@ module _ (w : World) (im : List ℕ) (own : w .state .held ≡ true → w .store
     pub record Ticked (n : ℕ) : Type 0 where
       pub told : Told (next (seen w im) (tick n)) (leaves w (tick n))
       pub count : countIn (answers w (tick n)) ≡ runsIn (seen w im) (tick n)
+      pub starts-kept : leaves w (tick n) .state .started ≡ c .started
+      pub ends-told : leaves w (tick n) .state .ended ≡ pick (ends (seen w im) (tick n)) (oneMore (c .ended)) (c .ended)
       pub ram : leaves w (tick n) .ram ≡ pixels (w .store) (c .taken) (doneBy (c .taken) (c .elapsed .0)) (doneBy (c .taken) (c .elapsed .0 + runsIn (seen w im) (tick n))) (w .ram)
 
     module _ (n : ℕ) where
@@ -209,24 +211,39 @@ module _ (w : World) (im : List ℕ) (own : w .state .held ≡ true → w .store
           (λ h. simp h (ne-eqb e total (λ z. omega (arith, before-total c exists h))))
           (λ h. simp h)
 
+      -- whether it ends the capture: not where no cycle runs, nor where some are left
+      ends-still : runs ≡ 0 → ends (seen w im) (tick n) ≡ false
+      unfolding ends
+      ends-still z = rw (z, add-zero, cycles-total (c .taken), before-end)
+
+      ends-on : runs ≡ n → e + n < total → ends (seen w im) (tick n) ≡ false
+      unfolding ends
+      ends-on z l = rw (z, cycles-total (c .taken), ne-eqb (e + n) total (omega arith), and-false)
+
+      ends-over : c .held ≡ true → runs ≡ total - e → e < total → ends (seen w im) (tick n) ≡ true
+      unfolding ends
+      ends-over h z l = rw (z, h, cycles-total (c .taken), eq-eqb (e + (total - e)) total (omega arith))
+
       -- what is told after the tick: nothing new, so many cycles more, the end
       next-still : runs ≡ 0 → next (seen w im) (tick n) ≡ seen w im
-      unfolding next ends running
-      next-still z = rw (z, add-zero, cycles-total (c .taken), before-end)
+      unfolding next running
+      next-still z = rw (ends-still z, z, add-zero)
 
       next-on : runs ≡ n → e + n < total → next (seen w im) (tick n) ≡ running (seen w im) (e + n)
-      unfolding next ends
-      next-on z l = rw (z, cycles-total (c .taken), ne-eqb (e + n) total (omega arith), and-false)
+      unfolding next
+      next-on z l = rw (ends-on z l, z)
 
       next-over : c .held ≡ true → runs ≡ total - e → e < total → next (seen w im) (tick n) ≡ ending (seen w im)
-      unfolding next ends
-      next-over h z l = rw (z, h, cycles-total (c .taken), eq-eqb (e + (total - e)) total (omega arith))
+      unfolding next
+      next-over h z l = rw (ends-over h z l)
 
       -- no cycle runs: all stays
       still : runs ≡ 0 → leaves w (tick n) ≡ w → countIn (answers w (tick n)) ≡ 0 → Ticked n
       still z l k = record {
         told = rw (next-still z, l) stays;
         count = k ∙ sym z;
+        starts-kept = rw l;
+        ends-told = rw (l, ends-still z);
         ram = rw (z, add-zero, l, pixels-none (w .store) (c .taken) (doneBy (c .taken) e) (w .ram));
       }
 
@@ -260,24 +277,31 @@ module _ (w : World) (im : List ℕ) (own : w .state .held ≡ true → w .store
 
           -- a tick within a capture
           onward : e + n < total → Ticked n
+          unfolding moved
           onward l =
               let z : runs ≡ n = runs-min ∙ omega arith in
               let g = going (w .store) c (w .ram) on n l in
               record {
                 told = rw (next-on z l, tick-leaves w n exists, ok, g) (on-told _ (pixels-length (w .store) (c .taken) _ _ (w .ram)));
                 count = tick-count w n exists ∙ rw (ok, g, z);
+                starts-kept = rw (tick-leaves w n exists, ok, g);
+                ends-told = rw (tick-leaves w n exists, ok, g, ends-on z l);
                 ram = rw (tick-leaves w n exists, ok, g, z);
               }
 
           -- a tick in which it ends
           ending-told : e < total → total ≤ e + n → Ticked n
+          unfolding ended
           ending-told b l =
               let z : runs ≡ total - e = runs-min ∙ omega arith in
               let whole : total ≡ e + (total - e) = omega arith in
               let g = over (w .store) c (w .ram) on n b (omega arith) in
+              let h = both-left (c .held) (started (c .registers)) on in
               record {
-                told = rw (next-over (both-left (c .held) (started (c .registers)) on) z b, tick-leaves w n exists, ok, g) (over-told _ (pixels-length (w .store) (c .taken) _ _ (w .ram)));
+                told = rw (next-over h z b, tick-leaves w n exists, ok, g) (over-told _ (pixels-length (w .store) (c .taken) _ _ (w .ram)));
                 count = tick-count w n exists ∙ rw (ok, g, z);
+                starts-kept = rw (tick-leaves w n exists, ok, g);
+                ends-told = rw (tick-leaves w n exists, ok, g, ends-over h z b);
                 ram = rw (tick-leaves w n exists, ok, g, z) (ap (λ (k : ℕ). pixels (w .store) (c .taken) (doneBy (c .taken) e) (doneBy (c .taken) k) (w .ram)) whole);
               }
 

@@ -3,6 +3,7 @@ pub mod Picks
 pub mod Exists
 pub mod Reachable
 pub mod Follows
+pub mod Counts
 pub mod Outside
 pub mod Goes
 pub mod Cycles

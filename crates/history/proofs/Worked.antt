@@ -1,4 +1,4 @@
--- Worked histories: calls that meet all premises of `cycles`, `picture`, `half-picture` and `outside`, so that nobody doubts that they can be met. Assumes nothing.
+-- Worked histories: calls that meet all premises of `cycles`, `picture`, `half-picture` and `outside`, and that are counted, so that nobody doubts that they can be met. Assumes nothing.
 use mathlib.Core.Path.{_≡_, refl, sym, ap, _∙_}
 use mathlib.Core.Bool.{true}
 use mathlib.Core.List.{List, [], _∷_, _++_}
@@ -14,9 +14,11 @@ use Rattle.timing.specs.Timing.{readingFrom, firstRow}
 use Rattle.tiles.specs.Tiles.{shadeIn, areaOf, Bytes}
 use Rattle.tiles.specs.Picture.{pictureShade, pictureOf}
 use Rattle.controller.specs.Bus.{onCartridge}
-use Rattle.history.specs.History.{Call, read, write, tick, inspect, fresh, after, counted}
+use Rattle.history.specs.History.{Call, reset, read, write, tick, inspect, fresh, after, counted}
 use Rattle.history.specs.Track.{atReset, writeAccepted, tickAccepted, cyclesOf, runsIn, ends, toRegisters, starts, imageIn, registersAt, lands, landsAt, byteIn, enabling, selecting, storing, beginning, running, ending, controlled, registered, written, next, follow, told}
 use Rattle.history.specs.Since.{isReset, goesOn, Held, Whole, inArea, ofPixel, cycleOf, clear, lastIn, bytesIn}
+use Rattle.history.specs.Counts.{tally, startsTold, endsTold}
+use Rattle.history.proofs.Counts.{Counts, started-counts, ended-counts}
 use Rattle.history.proofs.Outside.{outside}
 use Rattle.history.proofs.Goes.{on}
 use Rattle.history.proofs.Cycles.{cycles}
@@ -88,9 +90,13 @@ pub record Premises : Type 0 where
   pub ran : follow (next (told ram store before) start) stopped .ran ≡ 3000
   -- one write landed, at 1000h
   pub landed : (first : ℕ) → lastIn 0x1000 (atReset (length ram) (length store)) calls first ≡ 0x5A
+  -- one start and one end; with a start more two and one; with a reset more none
+  pub told-once : (startsTold ram store calls ≡ 1) × (endsTold ram store calls ≡ 1)
+  pub told-again : (startsTold ram store (calls ++ (start ∷ [])) ≡ 2) × (endsTold ram store (calls ++ (start ∷ [])) ≡ 1)
+  pub told-reset : (startsTold ram store (calls ++ (reset ∷ [])) ≡ 0) × (endsTold ram store (calls ++ (reset ∷ [])) ≡ 0)
 
 pub premises : Premises
-unfolding registersAt starts toRegisters writeAccepted tickAccepted banksAllowed ones onesIn onCartridge follow next atReset written registered controlled enabling selecting storing beginning running ending ends runsIn cyclesOf goesOn isReset clear inArea lands landsAt byteIn bytesIn lastIn
+unfolding registersAt starts toRegisters writeAccepted tickAccepted banksAllowed ones onesIn onCartridge follow next atReset written registered controlled enabling selecting storing beginning running ending ends runsIn cyclesOf goesOn isReset clear inArea lands landsAt byteIn bytesIn lastIn tally
 premises = record {
   regs-at-start = refl;
   whole = record { held = record { begins = refl; goes = refl }; over = refl };
@@ -100,6 +106,9 @@ premises = record {
   unwritten = λ j. refl;
   ran = refl;
   landed = λ first. refl;
+  told-once = (refl, refl);
+  told-again = (refl, refl);
+  told-reset = (refl, refl);
 }
 
 pub ram-bytes : Bytes ram
@@ -122,6 +131,22 @@ worked-picture =
 -- Worked outside: the byte that landed
 pub worked-outside : getD (after (fresh ram store) calls .ram) 0x1000 0 ≡ 0x5A
 worked-outside = outside ram store calls 0x1000 (unfold inArea in refl) ∙ premises .landed (getD ram 0x1000 0)
+
+-- Worked counts: the capture is counted once and once, though it was stopped and resumed; a second start twice and once; and none after a reset
+of-calls : (cs : List Call) (s e : ℕ) → (startsTold ram store cs ≡ s) × (endsTold ram store cs ≡ e) → Counts (s % 65536) (e % 65536) (after (fresh ram store) cs .state)
+of-calls cs s e told = record {
+  started = started-counts ram store cs ∙ ap (λ (n : ℕ). n % 65536) (told .0);
+  ended = ended-counts ram store cs ∙ ap (λ (n : ℕ). n % 65536) (told .1);
+}
+
+pub worked-counts : Counts 1 1 (after (fresh ram store) calls .state)
+worked-counts = of-calls calls 1 1 (premises .told-once)
+
+pub worked-again : Counts 2 1 (after (fresh ram store) (calls ++ (start ∷ [])) .state)
+worked-again = of-calls (calls ++ (start ∷ [])) 2 1 (premises .told-again)
+
+pub worked-reset : Counts 0 0 (after (fresh ram store) (calls ++ (reset ∷ [])) .state)
+worked-reset = of-calls (calls ++ (reset ∷ [])) 0 0 (premises .told-reset)
 
 ran-so-far : counted (after (fresh ram store) before) (start ∷ stopped) ≡ 3000
 ran-so-far = sym (on ram store before start stopped (premises .held) .ran) ∙ premises .ran

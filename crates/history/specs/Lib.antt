@@ -2,4 +2,5 @@
 pub mod History
 pub mod Track
 pub mod Since
+pub mod Counts
 pub mod Writes
