@@ -9,7 +9,7 @@ use lib.ListN.{length}
 use Rattle.laws.specs.Pick.{pick}
 use Rattle.laws.proofs.Pick.{pick-ind}
 use Rattle.controller.specs.declared.Controller.{Controller}
-use Rattle.controller.specs.Lent.{ramAllowed, frameAllowed}
+use Rattle.timing.specs.Lent.{ramAllowed, frameAllowed}
 use Rattle.controller.specs.State.{cantExist, resetState, oneMore}
 use Rattle.controller.specs.Capture.{begun}
 use Rattle.controller.specs.Bus.{left, onCartridge, byteWritten, controlWritten, registerWritten, captureWritten, withBank, withRegister, withEnabled, withSelect, isStart, registersOn}
