@@ -6,7 +6,7 @@ use lib.Dec.{ltb}
 use Rattle.laws.specs.Pick.{pick}
 use Rattle.controller.specs.declared.Controller.{Controller}
 use Rattle.controller.specs.declared.Refusal.{Refusal}
-use Rattle.controller.specs.declared.Refusal.the-variants.{State, Rom, Ram, Frame, Address, Room}
+use Rattle.controller.specs.declared.Refusal.the-variants.{State, Rom, Ram, Frame, Address, Room, Held}
 use Rattle.timing.specs.Lent.{romAllowed, ramAllowed, frameAllowed}
 use Rattle.controller.specs.State.{cantExist}
 use Rattle.controller.specs.Outcome.{numberOf}
@@ -43,6 +43,10 @@ noPlace address = row Address (not (onCartridge address))
 -- 7: a lent buffer is shorter than what is to be written
 abbrev pub noRoom : ℕ → ℕ → Row
 noRoom bytes length = row Room (ltb length bytes)
+
+-- 10: a capture is held, running or stopped
+abbrev pub someHeld : Controller → Row
+someHeld c = row Held (c .held)
 
 -- a row's number where it holds, and else the number that the rows after it give
 abbrev pub before : Row → ℕ → ℕ

@@ -26,6 +26,7 @@ impl Refusal {
             Refusal::Room => 7,
             Refusal::File => 8,
             Refusal::Choice => 9,
+            Refusal::Held => 10,
         }
     }
 }

@@ -22,7 +22,7 @@ pub struct Controller {
     pub ended: u16,
 }
 
-// Refusals, by what can't exist, is not allowed or is too short.
+// Refusals, by what can't exist, is not allowed, is too short or is held.
 pub enum Refusal {
     State,
     Rom,
@@ -33,6 +33,7 @@ pub enum Refusal {
     Room,
     File,
     Choice,
+    Held,
 }
 
 // What judging a call comes to.
