@@ -2,3 +2,5 @@
 pub mod Plates
 pub mod Exports
 pub mod Same
+pub mod Each
+pub mod Placed

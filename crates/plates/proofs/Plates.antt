@@ -1,5 +1,5 @@
 -- Laws of a plate's pixels. Assumes nothing.
-use mathlib.Core.Path.{_≡_, refl, sym, _∙_}
+use mathlib.Core.Path.{_≡_, refl, sym, ap, _∙_}
 use mathlib.Core.List.{List}
 use Prim.Native.Nat.{ℕ, zero, suc, _+_, _*_, _/_, _%_, _<_, _≤_}
 use native.Mathlib.Nat.{add-zero}
@@ -7,16 +7,19 @@ use native.Mathlib.Omega.{arith}
 use lib.ListN.{getD}
 use Rattle.tiles.specs.Tiles.{shadeIn}
 use Rattle.laws.proofs.Filled.{Filled, filled-more, filled-to}
-use Rattle.plates.specs.Grey.{greyAt}
-use Rattle.plates.specs.Eight.{eightOf, putFirst}
+use Rattle.laws.specs.Lists.{listed}
+use Rattle.laws.proofs.Packed.{listed-at, listed-ext}
+use Rattle.tiles.proofs.Area.{shadeIn-small}
+use Rattle.plates.specs.Grey.{shadeNth, greyOf, greyAt}
+use Rattle.plates.specs.Eight.{eightOf, putFirst, Shades}
 
 -- the place of the eight pixels of column t of tiles in row y
 abbrev pub placeOf : ℕ → ℕ → ℕ
 placeOf y t = 0x100 + 16 * (16 * (y / 8) + t) + 2 * (y % 8)
 
 -- the pixels that stand in two bytes
-pub eight-same : (ram : List ℕ) (y t : ℕ) → t < 16 → (b : ℕ) → b < 8 → eightOf (getD ram (placeOf y t) 0) (getD ram (placeOf y t + 1) 0) b ≡ greyAt ram (8 * (16 * y + t) + b)
-unfolding eightOf greyAt shadeIn
+pub eight-same : (ram : List ℕ) (y t : ℕ) → t < 16 → (b : ℕ) → b < 8 → eightOf (getD ram (placeOf y t) 0) (getD ram (placeOf y t + 1) 0) b ≡ shadeNth ram (8 * (16 * y + t) + b)
+unfolding eightOf shadeIn
 eight-same ram y t h b l =
     let x : (8 * (16 * y + t) + b) % 128 ≡ 8 * t + b = omega arith in
     let r : (8 * (16 * y + t) + b) / 128 ≡ y = omega arith in
@@ -30,3 +33,13 @@ unfolding putFirst
 first-filled f size pixels at low high zero r h e = filled-to f r (sym (add-zero at))
 first-filled f size pixels at low high (suc n) r h e =
     filled-to f (filled-more f (eightOf low high n) (first-filled f size pixels at low high n r (omega arith) (λ b l. e b (omega arith))) (omega arith) (e n (omega arith))) (omega arith)
+
+-- each pixel read is one of four shades
+pub shades-small : (ram pixels : List ℕ) → pixels ≡ listed (shadeNth ram) 14336 → Shades pixels
+shades-small ram pixels e k h = rw (e, listed-at (shadeNth ram) 14336 k h) (shadeIn-small ram (k % 128) (k / 128))
+
+-- and the greys of them are the plate's
+pub greys-same : (ram pixels : List ℕ) → pixels ≡ listed (shadeNth ram) 14336 → listed (λ k. greyOf (getD pixels k 0)) 14336 ≡ listed (greyAt ram) 14336
+unfolding greyAt
+greys-same ram pixels e =
+    listed-ext _ _ 14336 (λ k h. ap greyOf (ap (λ (l : List ℕ). getD l k 0) e ∙ listed-at (shadeNth ram) 14336 k h))

@@ -19,9 +19,13 @@ header =
 unfoldable pub greyOf : ℕ → ℕ
 greyOf shade = 255 - 85 * shade
 
--- the grey of pixel k, row by row: column k mod 128 of row k/128
+-- the shade of pixel k, row by row: column k mod 128 of row k/128
+abbrev pub shadeNth : List ℕ → ℕ → ℕ
+shadeNth ram k = shadeIn ram (k % 128) (k / 128)
+
+-- its grey
 unfoldable pub greyAt : List ℕ → ℕ → ℕ
-greyAt ram k = greyOf (shadeIn ram (k % 128) (k / 128))
+greyAt ram k = greyOf (shadeNth ram k)
 
 -- the file: the header of 15 bytes, then 14,336 pixels. The RAM is read straight
 unfoldable pub plateOf : List ℕ → List ℕ

@@ -1,20 +1,21 @@
 // The picture area as a Netpbm file of kind P5, whether or not a capture is running.
+use super::shades::put_shades;
 use controller::Refusal;
 use controller::Verdict;
 use controller::judge::no_ram;
 use controller::judge::no_room;
 ghost use mathlib.Core.Path.{_≡_};
 ghost use mathlib.Core.List.{_++_};
-ghost use Prim.Native.Nat.{ℕ, _+_, _*_, _<_, _≤_};
-ghost use lib.ListN.{length, drop};
+ghost use Prim.Native.Nat.{ℕ, _<_, _≤_};
+ghost use lib.ListN.{length, getD, drop};
 ghost use Rattle.laws.specs.Lists.{listed};
 ghost use Rattle.controller.specs.Outcome.{verdictNumber};
 ghost use Rattle.controller.specs.Table.{lowest};
 ghost use Rattle.plates.specs.Grey.{header, greyOf, greyAt, plateOf, outputNumber, outputValue, exported, exportRows, exportMeans};
-ghost use Rattle.plates.specs.Eight.{putFirst};
+ghost use Rattle.plates.specs.Eight.{Shades};
 
 // What a file starts with: kind, columns, rows and largest value.
-const HEADER: [u8; 15] = *b"P5\n128 112\n255\n";
+pub(crate) const HEADER: [u8; 15] = *b"P5\n128 112\n255\n";
 // The bytes of a file.
 pub const FILE: usize = 14351;
 
@@ -24,40 +25,31 @@ pub enum Output {
     Refused(Refusal),
 }
 
-// The grey of a shade's two bits.
-fn grey(low: u8, high: u8) -> u8
-    requires { ⌜ (low < 2) × (high < 2) ⌝ }
-    ensures { λ r. ⌜ r ≡ greyOf (low + 2 * high) ⌝ }
+// The grey of a shade.
+fn grey(shade: u8) -> u8
+    requires { ⌜ shade < 4 ⌝ }
+    ensures { λ r. ⌜ r ≡ greyOf shade ⌝ }
 {
-    255 - 85 * (low + 2 * high)
+    255 - 85 * shade
 }
 
-// Puts the greys of eight pixels of a row, from their low bits and their high bits.
-fn put_eight(pixels: &mut [u8], at: usize, low: u8, high: u8)
-    requires { ⌜ (at + 8 ≤ length (now pixels)) × (at < 14336) ⌝ }
-    ensures { λ _. ⌜ now (pixels .exit) ≡ putFirst (now (pixels .entry)) at low high 8 ⌝ }
+// Shades, made greys where they stand.
+fn put_greys(pixels: &mut [u8])
+    requires { ⌜ (length (now pixels) ≡ 14336) × Shades (now pixels) ⌝ }
+    ensures { λ _. ⌜ now (pixels .exit) ≡ listed (λ k. greyOf (getD (now (pixels .entry)) k 0)) 14336 ⌝ }
 {
-    pixels[at] = grey(low / 128 % 2, high / 128 % 2);
-    pixels[at + 1] = grey(low / 64 % 2, high / 64 % 2);
-    pixels[at + 2] = grey(low / 32 % 2, high / 32 % 2);
-    pixels[at + 3] = grey(low / 16 % 2, high / 16 % 2);
-    pixels[at + 4] = grey(low / 8 % 2, high / 8 % 2);
-    pixels[at + 5] = grey(low / 4 % 2, high / 4 % 2);
-    pixels[at + 6] = grey(low / 2 % 2, high / 2 % 2);
-    pixels[at + 7] = grey(low / 1 % 2, high / 1 % 2);
+    for k in 0..14336 {
+        pixels[k] = grey(pixels[k]);
+    }
 }
 
-// All pixels, row by row, eight at a time: each byte of the area is read once.
+// All pixels, row by row.
 fn put_pixels(ram: &[u8], pixels: &mut [u8])
     requires { ⌜ (8192 ≤ length (now ram)) × (length (now pixels) ≡ 14336) ⌝ }
     ensures { λ _. ⌜ now (pixels .exit) ≡ listed (greyAt (now (ram .entry))) 14336 ⌝ }
 {
-    for y in 0..112 {
-        for t in 0..16 {
-            let o = tiles::PICTURE + 16 * (16 * (y / 8) + t) + 2 * (y % 8);
-            put_eight(pixels, 8 * (16 * y + t), ram[o], ram[o + 1]);
-        }
-    }
+    put_shades(ram, pixels);
+    put_greys(pixels);
 }
 
 // The header's bytes.

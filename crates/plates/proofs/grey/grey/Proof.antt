@@ -10,4 +10,4 @@ unfolding greyOf
 returns c = refl
 
 pub grey-spec : {M : Type 1} → statement M
-grey-spec = tie.close (tie.spec (λ c. search needs) (λ c. search needs) (λ c. search needs) (λ c. search needs) returns)
+grey-spec = tie.close (tie.spec (λ c. search needs) (λ c. search needs) returns)
