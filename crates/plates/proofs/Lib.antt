@@ -4,3 +4,5 @@ pub mod Exports
 pub mod Same
 pub mod Each
 pub mod Placed
+pub mod Left
+pub mod RoundTrip

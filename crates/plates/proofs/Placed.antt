@@ -1,23 +1,29 @@
 -- A plate placed in the area: when it is refused, and what it leaves. Assumes nothing.
 use mathlib.Core.Path.{_≡_, refl, sym, ap, ap₂, _∙_}
-use mathlib.Core.Bool.{true, false}
-use mathlib.Core.List.{List, []}
-use Prim.Native.Nat.{ℕ, _+_, _-_, _*_, _/_, _%_, _<_, _≤_}
+use mathlib.Core.Bool.{Bool, true, false, not, _&&_}
+use mathlib.Core.List.{List, [], _∷_}
+use Prim.Native.Nat.{ℕ, _+_, _*_, _/_, _%_, _<_}
 use native.Mathlib.Omega.{arith}
 use lib.ListN.{length, getD, take, drop, length-drop}
 use lib.Seq.{take-all}
 use lib.Dec.{eqb}
 use borrow.Author.Tests.{eqb-true}
 use Rattle.laws.proofs.Bools.{not-fails, both-left}
+use Rattle.laws.specs.Pick.{pick}
 use Rattle.controller.specs.declared.Controller.{Controller}
+use Rattle.controller.specs.declared.Refusal.the-variants.{State, Held}
+use Rattle.controller.specs.declared.WriteAnswer.{WriteAnswer}
+use Rattle.controller.specs.Outcome.{writeNumber, outcome}
+use Rattle.controller.specs.Picture.{afresh}
 use Rattle.controller.specs.State.{cantExist}
 use Rattle.timing.specs.Lent.{ramAllowed}
 use Rattle.controller.specs.Calls.{refusal}
-use Rattle.controller.specs.Table.{lowest}
-use Rattle.controller.proofs.Refusals.{Refuses, inOutcome, refuses, risingFrom, first-fails}
+use Rattle.controller.specs.Table.{row, noRam, lowest}
+use Rattle.controller.proofs.Afresh.{only-picture}
+use Rattle.controller.proofs.Refusals.{Refuses, inOutcome, refuses, judged-pick, risingFrom, first-fails}
 use Rattle.laws.proofs.Packed.{packed-ext}
 use Rattle.tiles.proofs.Area.{columnOf, rowOf, byteOf, byteOf-low, byteOf-high}
-use Rattle.plates.specs.Placing.{isPlate, shadeOf, shadeAt, placedByte, placed, placeRows, placeMeans}
+use Rattle.plates.specs.Placing.{isPlate, shadeOf, shadeAt, placedByte, placedIn, noPlate, placed, placeRows, placeMeans}
 use Rattle.plates.specs.Eight.{lowsAt, highsAt}
 
 -- a placing is refused by the lowest number of its rows, and only then
@@ -41,6 +47,36 @@ place-fits c ram file e =
     let p = first-fails _ _ (m .1) in
     let h = first-fails _ _ (p .1) in
     record { exists = s .0; ram-fits = not-fails _ (m .0); file-fits = not-fails _ (p .0); none-held = h .0 }
+
+-- no number is given to a state that can exist just where the RAM and the file are ones of theirs and no capture is held
+pub place-none : (c : Controller) (ram file : List ℕ) → cantExist c ≡ false → eqb (lowest (placeRows c ram file)) 0 ≡ (ramAllowed (length ram) && (isPlate file && not (c .held)))
+unfolding placeRows lowest
+place-none c ram file e = rw e (by-tests (ramAllowed (length ram)) (isPlate file) (c .held))
+  where
+    by-tests : (p q r : Bool) → eqb (pick (not p) 3 (pick (not q) 8 (pick r 10 0))) 0 ≡ (p && (q && not r))
+    by-tests false q r = refl
+    by-tests true false r = refl
+    by-tests true true false = refl
+    by-tests true true true = refl
+
+-- write enable, ROM bank and select make no difference: what a placing comes to turns on whether the state can exist and a capture is held
+pub place-same : (c d : Controller) (ram file : List ℕ) → cantExist c ≡ cantExist d → c .held ≡ d .held → (placeMeans c ram file .number ≡ placeMeans d ram file .number) × (placeMeans c ram file .ram ≡ placeMeans d ram file .ram)
+unfolding placeRows placeMeans
+place-same c d ram file e h =
+    let n : lowest (placeRows c ram file) ≡ lowest (placeRows d ram file) = rows-same e h in (
+      place-refuses c ram file .numbered ∙ n ∙ sym (place-refuses d ram file .numbered),
+      left c ∙ ap (λ (k : ℕ). pick (eqb k 0) (placedIn ram file) ram) n ∙ sym (left d),
+    )
+  where
+    rows-same : cantExist c ≡ cantExist d → c .held ≡ d .held → lowest (placeRows c ram file) ≡ lowest (placeRows d ram file)
+    rows-same e h = ap₂ (λ (x y : Bool). lowest (row State x ∷ noRam (length ram) ∷ noPlate file ∷ row Held y ∷ [])) e h
+
+    left : (c : Controller) → placeMeans c ram file .ram ≡ pick (eqb (lowest (placeRows c ram file)) 0) (placedIn ram file) ram
+    left c = judged-pick (λ o. o .ram) (lowest (placeRows c ram file)) (placed c ram file) ram (λ k. refl)
+
+-- one answer, and one RAM
+pub only-place : (r s : WriteAnswer) (c : Controller) (ram ram′ : List ℕ) → outcome (writeNumber r) 0 c ram [] ≡ outcome (writeNumber s) 0 c ram′ [] → (r ≡ s) × (ram ≡ ram′)
+only-place r s c ram ram′ e = only-picture r s ram ram′ (λ i. afresh (e i .number) (e i .ram))
 
 pub plate-length : (file : List ℕ) → isPlate file ≡ true → length file ≡ 14351
 unfolding isPlate

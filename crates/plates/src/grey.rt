@@ -38,7 +38,7 @@ fn put_greys(pixels: &mut [u8])
     requires { ⌜ (length (now pixels) ≡ 14336) × Shades (now pixels) ⌝ }
     ensures { λ _. ⌜ now (pixels .exit) ≡ listed (λ k. greyOf (getD (now (pixels .entry)) k 0)) 14336 ⌝ }
 {
-    for k in 0..14336 {
+    for k in 0..tiles::PIXELS {
         pixels[k] = grey(pixels[k]);
     }
 }

@@ -18,6 +18,9 @@ ghost use Rattle.controller.specs.Table.{lowest};
 ghost use Rattle.plates.specs.Placing.{hasHeader, isGrey, onlyGreys, isPlate, shadeOf, placedArea, placeRows, placeMeans};
 ghost use Rattle.plates.specs.Eight.{lowsAt, highsAt};
 
+// The end of the picture area in RAM bank 0.
+const END: usize = 0xF00;
+
 // Whether a file starts with the header.
 fn has_header(file: &[u8]) -> bool
     requires { ⌜ 15 ≤ length (now file) ⌝ }
@@ -52,7 +55,7 @@ fn only_greys(pixels: &[u8]) -> bool
     requires { ⌜ length (now pixels) ≡ 14336 ⌝ }
     ensures { λ r. ⌜ r ≡ onlyGreys (now (pixels .entry)) ⌝ }
 {
-    for k in 0..14336 {
+    for k in 0..tiles::PIXELS {
         if !is_grey(pixels[k]) {
             return false;
         }
@@ -70,7 +73,7 @@ fn is_plate(file: &[u8]) -> bool
     if !has_header(file) {
         return false;
     }
-    only_greys(&file[15..14351])
+    only_greys(&file[15..FILE])
 }
 
 // The shade of a grey.
@@ -124,6 +127,6 @@ pub fn place(state: Controller, ram: &mut [u8], file: &[u8]) -> WriteAnswer
     if let Verdict::Refused(why) = verdict {
         return WriteAnswer::Refused(why);
     }
-    put_area(&file[15..14351], &mut ram[0x100..0xF00]);
+    put_area(&file[15..FILE], &mut ram[tiles::PICTURE..END]);
     WriteAnswer::Done
 }

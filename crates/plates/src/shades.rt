@@ -4,14 +4,13 @@ use controller::Verdict;
 use controller::judge::no_ram;
 use controller::judge::no_room;
 ghost use mathlib.Core.Path.{_≡_};
-ghost use mathlib.Core.List.{_++_};
-ghost use Prim.Native.Nat.{ℕ, _+_, _*_, _<_, _≤_};
-ghost use lib.ListN.{length, drop};
+ghost use Prim.Native.Nat.{_+_, _<_, _≤_};
+ghost use lib.ListN.{length};
 ghost use Rattle.laws.specs.Lists.{listed};
 ghost use Rattle.controller.specs.Outcome.{verdictNumber};
 ghost use Rattle.controller.specs.Table.{lowest};
 ghost use Rattle.plates.specs.Grey.{shadeNth, outputNumber, outputValue, exported};
-ghost use Rattle.plates.specs.Shades.{shadesOf, shadesRows, shadesMeans};
+ghost use Rattle.plates.specs.Shades.{shadesRows, shadesMeans};
 ghost use Rattle.plates.specs.Eight.{putFirst};
 
 // Puts the shades of eight pixels of a row, from their low bits and their high bits.
@@ -57,6 +56,6 @@ pub fn shades(ram: &[u8], out: &mut [u8]) -> Output
     if let Verdict::Refused(why) = verdict {
         return Output::Refused(why);
     }
-    put_shades(ram, &mut out[0..14336]);
+    put_shades(ram, &mut out[0..tiles::PIXELS]);
     Output::Bytes(14336)
 }

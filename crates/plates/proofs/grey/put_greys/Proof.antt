@@ -7,7 +7,6 @@ use lib.ListN.{getD}
 use lib.Seq.{getD-set-other}
 use Rattle.laws.proofs.Filled.{Filled, filled-none, filled-more, filled-end}
 use Rattle.plates.specs.Grey.{greyOf}
-use borrow.Author.Needs.{needs}
 use Rattle.plates.proofs.grey.put_greys.Statement.{statement}
 use Rattle.plates.proofs.grey.put_greys.Tie as tie
 

@@ -1,6 +1,5 @@
 -- `plates::grey::put_pixels` meets its contract: the shades, and then their greys. Assumes nothing.
-use mathlib.Core.Path.{_≡_, _∙_}
-use native.Mathlib.Omega.{arith}
+use mathlib.Core.Path.{_∙_}
 use Rattle.plates.proofs.Plates.{shades-small, greys-same}
 use borrow.Author.Needs.{needs}
 use Rattle.plates.proofs.grey.put_pixels.Statement.{statement}

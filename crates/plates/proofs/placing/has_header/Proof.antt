@@ -1,5 +1,5 @@
 -- `plates::placing::has_header` meets its contract: the invariant: the first k bytes are the header's. Assumes nothing.
-use mathlib.Core.Path.{_≡_, refl, sym}
+use mathlib.Core.Path.{_≡_, sym}
 use mathlib.Core.Bool.{Bool, true}
 use mathlib.Core.List.{List}
 use Prim.Native.Nat.{ℕ, _-_, _≤_}
@@ -10,7 +10,6 @@ use borrow.Author.Tests.{eq-eqb, ne-eqb}
 use Rattle.plates.specs.Grey.{header}
 use Rattle.plates.specs.Placing.{each, hasHeader}
 use Rattle.plates.proofs.Each.{each-none, each-more, each-fails}
-use borrow.Author.Needs.{needs}
 use Rattle.plates.proofs.placing.has_header.Statement.{statement}
 use Rattle.plates.proofs.placing.has_header.Tie as tie
 

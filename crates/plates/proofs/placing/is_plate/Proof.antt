@@ -1,5 +1,5 @@
 -- `plates::placing::is_plate` meets its contract: test by test. Assumes nothing.
-use mathlib.Core.Path.{_≡_, sym, ap, _∙_}
+use mathlib.Core.Path.{ap, _∙_}
 use borrow.Author.Tests.{eq-eqb, ne-eqb}
 use Rattle.laws.proofs.Bools.{left-out, let-in}
 use Rattle.plates.specs.Placing.{onlyGreys, isPlate}

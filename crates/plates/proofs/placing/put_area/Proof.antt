@@ -1,12 +1,11 @@
 -- `plates::placing::put_area` meets its contract: the invariant: the bytes put so far, two a turn. Assumes nothing.
-use mathlib.Core.Path.{_≡_, _∙_}
-use Prim.Native.Nat.{ℕ, _+_, _-_, _*_, _≤_}
+use mathlib.Core.Path.{_∙_}
+use Prim.Native.Nat.{_-_, _*_, _≤_}
 use native.Mathlib.Omega.{arith}
 use lib.ListN.{length-set}
 use Rattle.laws.proofs.Filled.{Filled, filled-none, filled-more, filled-end, filled-to}
 use Rattle.plates.specs.Placing.{placedByte, placedArea}
 use Rattle.plates.proofs.Placed.{placed-low, placed-high}
-use borrow.Author.Needs.{needs}
 use Rattle.plates.proofs.placing.put_area.Statement.{statement}
 use Rattle.plates.proofs.placing.put_area.Tie as tie
 

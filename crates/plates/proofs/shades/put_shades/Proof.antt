@@ -1,11 +1,9 @@
 -- `plates::shades::put_shades` meets its contract: the invariant: the pixels put so far. Assumes nothing.
-use mathlib.Core.Path.{_≡_}
-use Prim.Native.Nat.{ℕ, _+_, _-_, _*_, _≤_}
+use Prim.Native.Nat.{_+_, _-_, _*_, _≤_}
 use native.Mathlib.Omega.{arith}
 use Rattle.plates.specs.Grey.{shadeNth}
 use Rattle.laws.proofs.Filled.{Filled, filled-none, filled-end, filled-to}
 use Rattle.plates.proofs.Plates.{eight-same, first-filled}
-use borrow.Author.Needs.{needs}
 use Rattle.plates.proofs.shades.put_shades.Statement.{statement}
 use Rattle.plates.proofs.shades.put_shades.Tie as tie
 
