@@ -8,7 +8,7 @@ ghost use Rattle.sensor.specs.Taken.{exposureOf, alphas, Sane, Asked};
 ghost use Rattle.sensor.specs.Light.{Inside, adapted, exposed, turned, lightOf, litOf};
 ghost use Rattle.sensor.specs.Edge.{held, Small, acrossOf, uprightOf, aroundOf, enhanced, extracted, mode2, mode3, modeC, modeD, modeE, modeF, edgeOf, isPlain, leftOf, rightOf, aboveOf, belowOf, signedAt, threeOf, nineOf, step4};
 ghost use Rattle.sensor.specs.Row.{passes, step5};
-ghost use Rattle.sensor.specs.Shade.{valueAt, shadeOf, shadeAt};
+ghost use Rattle.sensor.specs.Shade.{valueAt, shadeOf, pixelAt};
 
 // What the registers taken ask of every pixel, worked out once.
 pub struct Setting {
@@ -371,11 +371,21 @@ pub fn shade(regs: &[u8; 54], x: usize, row: usize, v: u8) -> u8
     0
 }
 
-// The shade of a pixel of the sensor. `set` is what `regs` ask.
-pub fn shade_at(frame: &[u8], set: Setting, regs: &[u8; 54], x: usize, row: usize) -> u8
+// A pixel of the sensor: its value, 0 to 255, and its shade.
+pub struct Pixel {
+    pub value: u8,
+    pub shade: u8,
+}
+
+// The pixel at a column and a row. `set` is what `regs` ask.
+pub fn pixel_at(frame: &[u8], set: Setting, regs: &[u8; 54], x: usize, row: usize) -> Pixel
     requires { ⌜ Inside (length (now frame)) x row ⌝ }
     requires { ⌜ Asked set (now regs) ⌝ }
-    ensures { λ r. ⌜ r ≡ shadeAt (now (frame .entry)) (now (regs .entry)) x row ⌝ }
+    ensures { λ r. ⌜ r ≡ pixelAt (now (frame .entry)) (now (regs .entry)) x row ⌝ }
 {
-    shade(regs, x, row, value(frame, set, x, row))
+    let v = value(frame, set, x, row);
+    Pixel {
+        value: v,
+        shade: shade(regs, x, row, v),
+    }
 }

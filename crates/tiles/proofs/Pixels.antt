@@ -1,5 +1,5 @@
 -- What putting pixels does to the RAM, pixel by pixel and byte by byte. Assumes nothing.
-use mathlib.Core.Path.{_≡_, refl, sym, _∙_}
+use mathlib.Core.Path.{_≡_, refl, sym, ap, _∙_}
 use mathlib.Core.List.{List}
 use Prim.Native.Nat.{ℕ, zero, suc, _+_, _-_, _*_, _/_, _%_, _<_, _≤_}
 use native.Mathlib.Omega.{arith}
@@ -9,7 +9,8 @@ use borrow.Author.Tests.{le-leb, lt-leb}
 use Rattle.laws.specs.Bits.{bitOf, putBit}
 use Rattle.laws.proofs.Order.{split}
 use Rattle.laws.proofs.BitLaws.{put-bit-same, put-bit-other, put-byte}
-use Rattle.sensor.specs.Shade.{shadeAt}
+use Rattle.sensor.specs.declared.Pixel.{Pixel}
+use Rattle.sensor.specs.Shade.{shadeAt, pixelAt}
 use Rattle.sensor.proofs.Facts.{shade-small}
 use Rattle.tiles.specs.Tiles.{place, putAt, shadeIn, Bytes}
 use Rattle.tiles.specs.Picture.{pictureShade}
@@ -17,6 +18,10 @@ use Rattle.tiles.specs.Bulk.{putNth, pixels}
 use Rattle.tiles.proofs.Run.{put-length, pixels-suc}
 
 -- ---- shades
+
+-- the shade of a pixel that was made
+pub shade-same : (frame regs : List ℕ) (x row : ℕ) (p : Pixel) → p ≡ pixelAt frame regs x row → p .shade ≡ shadeAt frame regs x row
+shade-same frame regs x row p e = ap (λ (p : Pixel). p .shade) e
 
 -- a shade is one of four
 pub shade-bound : (frame regs : List ℕ) (x row r : ℕ) → r ≡ shadeAt frame regs x row → r < 4

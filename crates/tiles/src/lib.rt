@@ -47,8 +47,8 @@ fn put_nth(ram: &mut [u8], store: &[u8], set: Setting, regs: &[u8; 54], j: usize
 {
     let x = j % 128;
     let y = j / 128;
-    let shade = sensor::shade_at(store, set, regs, x, y + 8);
-    put_pixel(ram, x, y, shade);
+    let pixel = sensor::pixel_at(store, set, regs, x, y + 8);
+    put_pixel(ram, x, y, pixel.shade);
 }
 
 // Puts pixel j of the picture, or the eight from j on where they stand in the same two bytes and all are to be put: the next to put.
@@ -108,9 +108,9 @@ fn tile_row(frame: &[u8], set: Setting, regs: &[u8; 54], t: usize, y: usize) -> 
     let mut low: u8 = 0;
     let mut high: u8 = 0;
     for b in 0..8 {
-        let s = sensor::shade_at(frame, set, regs, 8 * t + b, y + 8);
-        low = low * 2 + s % 2;
-        high = high * 2 + s / 2;
+        let pixel = sensor::pixel_at(frame, set, regs, 8 * t + b, y + 8);
+        low = low * 2 + pixel.shade % 2;
+        high = high * 2 + pixel.shade / 2;
     }
     TileRow { low, high }
 }

@@ -8,7 +8,7 @@ use Rattle.laws.specs.Lists.{packed}
 use Rattle.tiles.specs.Picture.{pictureShade, lowByte, highByte}
 use Rattle.laws.proofs.Packed.{packed-none, packed-next, packed-room}
 use Rattle.sensor.proofs.Facts.{shade-small}
-use Rattle.tiles.proofs.Pixels.{shade-bound}
+use Rattle.tiles.proofs.Pixels.{shade-same, shade-bound}
 use Rattle.tiles.proofs.tile_row.Statement.{statement}
 use Rattle.tiles.proofs.tile_row.Tie as tie
 
@@ -27,23 +27,24 @@ abbrev μ-loop : tie.MeasureT-loop
 μ-loop frame set regs t y low₀ high₀ b₀ low high b = 8 - b
 
 -- there is room for one bit more in each byte, and the shade has two
-room : (c : tie.After-shade-at Inv-loop μ-loop) → (c .before .before .loop .low < 128) × (c .before .before .loop .high < 128) × (c .shade-at .result < 4)
+room : (c : tie.After-pixel-at Inv-loop μ-loop) → (c .before .before .loop .low < 128) × (c .before .before .loop .high < 128) × (c .pixel-at .result .shade < 4)
 room c =
     let a = c .before .before .before .before .args in
     let l = c .before .before .loop in
     let s = shade-small (a .frame .now) (a .regs .now) in (
       omega (arith, packed-room (lows (a .frame .now) (a .regs .now) (a .t) (a .y)) (λ b. omega arith) (l .b) (omega arith)),
       omega (arith, packed-room (highs (a .frame .now) (a .regs .now) (a .t) (a .y)) (λ b. omega (arith, s (8 * a .t + b) (a .y + 8))) (l .b) (omega arith)),
-      shade-bound _ _ _ _ _ (c .shade-at .ensures),
+      shade-bound _ _ _ _ _ (shade-same _ _ _ _ _ (c .pixel-at .ensures)),
     )
 
 loop-again : tie.Need-loop-again Inv-loop μ-loop
 loop-again c =
-    let a = c .before .before .before .before .args in
-    let l = c .before .before .loop in (
+    let p = c .before .before in
+    let a = p .before .before .before .before .args in
+    let l = p .before .before .loop in (
       omega arith,
-      packed-next (lows (a .frame .now) (a .regs .now) (a .t) (a .y)) (l .b) (l .low) _ (l .inv .1) (ap (λ (n : ℕ). n % 2) (c .shade-at .ensures)),
-      packed-next (highs (a .frame .now) (a .regs .now) (a .t) (a .y)) (l .b) (l .high) _ (l .inv .2) (ap (λ (n : ℕ). n / 2) (c .shade-at .ensures)),
+      packed-next (lows (a .frame .now) (a .regs .now) (a .t) (a .y)) (l .b) (l .low) _ (l .inv .1) (ap (λ (n : ℕ). n % 2) (shade-same _ _ _ _ _ (p .pixel-at .ensures))),
+      packed-next (highs (a .frame .now) (a .regs .now) (a .t) (a .y)) (l .b) (l .high) _ (l .inv .2) (ap (λ (n : ℕ). n / 2) (shade-same _ _ _ _ _ (p .pixel-at .ensures))),
     )
 
 returns : tie.Need-returns Inv-loop μ-loop
@@ -64,9 +65,9 @@ tile-row-spec =
     (λ c. omega arith)
     (λ c κs. search needs)
     (λ c. omega (arith, room c))
-    (λ c. omega (arith, room c))
-    (λ c. omega (arith, room c))
-    (λ c. omega (arith, room c))
+    (λ c. omega (arith, room (c .before)))
+    (λ c. omega (arith, room (c .before)))
+    (λ c. omega (arith, room (c .before .before)))
     (λ c. omega arith)
     (λ c. omega arith)
     loop-again
