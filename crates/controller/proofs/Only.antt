@@ -6,7 +6,7 @@ use Prim.Native.Nat.{ℕ, zero, suc}
 use native.Mathlib.Omega.{arith}
 use Rattle.timing.specs.declared.Cycles.{Cycles}
 use Rattle.controller.specs.declared.Refusal.{Refusal}
-use Rattle.controller.specs.declared.Refusal.the-variants.{State, Rom, Ram, Frame, Address, Line, Room, File, Choice, Held}
+use Rattle.controller.specs.declared.Refusal.the-variants.{State, Rom, Ram, Frame, Address, Line, Room, File, Choice, Held, NotHeld}
 use Rattle.controller.specs.declared.ReadAnswer.{ReadAnswer}
 use Rattle.controller.specs.declared.ReadAnswer.the-variants as reads
 use Rattle.controller.specs.declared.WriteAnswer.{WriteAnswer}
@@ -32,7 +32,8 @@ refusalOf (suc (suc (suc (suc (suc (suc zero)))))) = Line
 refusalOf (suc (suc (suc (suc (suc (suc (suc zero))))))) = Room
 refusalOf (suc (suc (suc (suc (suc (suc (suc (suc zero)))))))) = File
 refusalOf (suc (suc (suc (suc (suc (suc (suc (suc (suc zero))))))))) = Choice
-refusalOf (suc (suc (suc (suc (suc (suc (suc (suc (suc (suc n)))))))))) = Held
+refusalOf (suc (suc (suc (suc (suc (suc (suc (suc (suc (suc zero)))))))))) = Held
+refusalOf (suc (suc (suc (suc (suc (suc (suc (suc (suc (suc (suc n))))))))))) = NotHeld
 
 back : (r : Refusal) → refusalOf (numberOf r) ≡ r
 unfolding refusalOf
@@ -46,6 +47,7 @@ back Room = refl
 back File = refl
 back Choice = refl
 back Held = refl
+back NotHeld = refl
 
 pub only-number : (r s : Refusal) → numberOf r ≡ numberOf s → r ≡ s
 only-number r s e = sym (back r) ∙ ap refusalOf e ∙ back s
@@ -62,6 +64,7 @@ some-number Room e = omega arith
 some-number File e = omega arith
 some-number Choice e = omega arith
 some-number Held e = omega arith
+some-number NotHeld e = omega arith
 
 read-answer : (a b : ReadAnswer) → readNumber a ≡ readNumber b → readValue a ≡ readValue b → a ≡ b
 read-answer (reads.Byte x) (reads.Byte y) n v = ap reads.Byte v

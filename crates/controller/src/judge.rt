@@ -27,6 +27,7 @@ impl Refusal {
             Refusal::File => 8,
             Refusal::Choice => 9,
             Refusal::Held => 10,
+            Refusal::NotHeld => 11,
         }
     }
 }

@@ -34,6 +34,7 @@ pub enum Refusal {
     File,
     Choice,
     Held,
+    NotHeld,
 }
 
 // What judging a call comes to.
