@@ -6,3 +6,4 @@ pub mod Each
 pub mod Placed
 pub mod Left
 pub mod RoundTrip
+pub mod Values

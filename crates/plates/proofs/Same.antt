@@ -60,12 +60,18 @@ module _ (ram ram′ : List ℕ) (long : 8192 ≤ length ram) (long′ : 8192 �
     λ e. alike-plate ram ram′ (area-alike ram ram′ e),
   )
 
--- where the area is the picture afresh, the file is that of the picture afresh
+-- where the area is the picture afresh, the RAM shows its shades
+pub afresh-alike : (frame regs ram : List ℕ) → 8192 ≤ length ram → Bytes ram → areaOf ram ≡ pictureOf frame regs → Alike (shadeIn ram) (pictureShade frame regs)
+afresh-alike frame regs ram long bytes e x y hx hy =
+    let k : ℕ = 128 * y + x in
+    let a : k % 128 ≡ x = omega arith in
+    let b : k / 128 ≡ y = omega arith in
+    area-alike ram (pixels frame regs 0 14336 ram) (e ∙ sym (pixels-whole frame regs ram long bytes)) x y hx hy
+    ∙ rw (a, b) at (pixels-passed frame regs 0 14336 ram (omega arith) long k (omega arith) (omega arith))
+
+-- and the file is that of the picture afresh
 pub afresh-plate : (frame regs ram : List ℕ) → 8192 ≤ length ram → Bytes ram → areaOf ram ≡ pictureOf frame regs → plateOf ram ≡ plateAfresh frame regs
 unfolding plateOf plateAfresh greyAt
 afresh-plate frame regs ram long bytes e =
-    let drawn = pixels frame regs 0 14336 ram in
-    let same : Alike (shadeIn ram) (shadeIn drawn) = area-alike ram drawn (e ∙ sym (pixels-whole frame regs ram long bytes)) in
     ap (λ (l : List ℕ). header ++ l)
-    (listed-ext _ _ 14336
-    (λ k h. ap greyOf (same (k % 128) (k / 128) (omega arith) (omega arith) ∙ pixels-passed frame regs 0 14336 ram (omega arith) long k (omega arith) h)))
+    (listed-ext _ _ 14336 (λ k h. ap greyOf (afresh-alike frame regs ram long bytes e (k % 128) (k / 128) (omega arith) (omega arith))))
