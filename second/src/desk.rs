@@ -4,8 +4,8 @@ use crate::levels::{CONTRAST_LEVELS, LEVELS, LIGHT_SETS, MATRIX_BYTES};
 use crate::picture::MATRIX;
 use crate::{Refusal, State};
 
-/// The exposure when none is named: objects not under direct sunlight.
-const UNNAMED_EXPOSURE: u16 = 0x0300;
+/// The exposure when none is named: the first value the ROM sets.
+const UNNAMED_EXPOSURE: u16 = 0x1000;
 
 /// Sets the matrix and exposure registers, and nothing else; a capture held is not affected.
 pub fn choose(

@@ -92,13 +92,13 @@ fn every_choice() {
         for level in 0..16 {
             let matrix = &printed[2 * level + light];
             for off in [false, true] {
-                for exposure in [None, Some(0), Some(0x1234), Some(0xFFFF), Some(0x0300)] {
+                for exposure in [None, Some(0), Some(0x1234), Some(0xFFFF), Some(0x1000)] {
                     for before in states(&mut random) {
                         let mut state = before;
                         let (light, level) = (light as u8, level as u8);
                         assert_eq!(choose(&mut state, light, level, off, exposure), Ok(()));
                         let mut wanted = before;
-                        let named = exposure.unwrap_or(0x0300);
+                        let named = exposure.unwrap_or(0x1000);
                         wanted.registers[2] = (named / 256) as u8;
                         wanted.registers[3] = (named % 256) as u8;
                         for place in 0..48 {
@@ -118,10 +118,21 @@ fn every_choice() {
 fn default_contrast_in_low_light() {
     let mut state = State::RESET;
     choose(&mut state, 1, 7, false, None).unwrap();
-    assert_eq!(state.registers[..9], [0, 0, 3, 0, 0, 0, 0x8C, 0x98, 0xAC]);
+    assert_eq!(state.registers[..9], [0, 0, 16, 0, 0, 0, 0x8C, 0x98, 0xAC]);
     assert_eq!(state.registers[51..], [0x8F, 0x9E, 0xBF]);
     choose(&mut state, 1, 7, true, None).unwrap();
     assert_eq!(state.registers[51..], [0x8C, 0x98, 0xAC]);
+}
+
+#[test]
+fn an_example_for_bright_tables_names_its_exposure() {
+    // What leaving it unnamed gave while that meant 0300h.
+    let mut before = State::RESET;
+    (before.registers[2], before.registers[3]) = (3, 0);
+    before.registers[6..].copy_from_slice(&printed()[14]);
+    let mut state = State::RESET;
+    choose(&mut state, 0, 7, false, Some(0x0300)).unwrap();
+    assert_eq!(state, before);
 }
 
 #[test]
