@@ -99,7 +99,7 @@ uint64_t gulxinett_tick(uint8_t *state, size_t state_len,
 
 /* Chooses the matrix of a light set (0 high light, 1 low light) and a level (0 the lowest contrast,
  * 7 the default, 15 the highest), with its dithering (plain 0) or without (any other), and an
- * exposure; unnamed it is 0300h. Writes registers 2, 3 and 6 to 53 of the state and nothing else:
+ * exposure; unnamed it is 1000h. Writes registers 2, 3 and 6 to 53 of the state and nothing else:
  * a capture held goes on with the registers of its start. Refused as 1, then as 9. Value 0. */
 uint64_t gulxinett_choose(uint8_t *state, size_t state_len,
                           uint8_t light, uint8_t level, uint8_t plain, uint32_t exposure);

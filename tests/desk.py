@@ -13,7 +13,7 @@ from gulxinett import FRAME_BYTES, PICTURE_BYTES, Cartridge, picture
 
 ROOT = Path(__file__).resolve().parents[1]
 TRIGGER, AREA = 0xA000, 0xA100
-UNNAMED = b"\x03\x00"
+UNNAMED = b"\x10\x00"
 IMAGE = bytes((3 * (i & 127) + 5 * (i >> 7)) & 255 for i in range(FRAME_BYTES))
 
 
@@ -75,10 +75,13 @@ def photographed(choice):
 
 
 def defined():
-    """The choices as the crate defines them: a line that names one, and its level and whether it is plain below."""
+    """The choices as the crate defines them: the exposure of bright tables, and of each choice a line that names it, and its level and
+    whether it is plain below."""
     text = Path(ROOT, "crates/desk/specs/Stored.antt").read_text(encoding="utf-8")
+    steps = [int(named, 16) for named in re.findall(r"exposure = Named 0x([0-9A-F]+) }", text)]
+    ensure(len(steps) == 1, "bright tables name %d exposures" % len(steps))
     found = re.findall(r"^-- (.*, bright table):.*\n.*\n\w+ = brightTable (\d+) (true|false)$", text, re.MULTILINE)
-    return {name: {"light": 0, "level": int(level), "dithering": plain == "false"} for name, level, plain in found}
+    return {name: {"light": 0, "level": int(level), "dithering": plain == "false", "exposure": steps[0]} for name, level, plain in found}
 
 
 def by_name(matrices, bus):
@@ -88,7 +91,8 @@ def by_name(matrices, bus):
     for name, choice in choices.items():
         registers, area, script = photographed(choice)
         matrix = chosen(matrices[2 * choice["level"] + choice["light"]], choice["dithering"])
-        ensure(registers == b"\0\0" + UNNAMED + b"\0\0" + matrix, "%s writes other registers than its choice" % name)
+        steps = choice["exposure"].to_bytes(2, "big")
+        ensure(registers == b"\0\0" + steps + b"\0\0" + matrix, "%s writes other registers than its choice" % name)
         answers = subprocess.run([bus], input=script, stdout=subprocess.PIPE, check=True).stdout.split()
         ensure(answers[-PICTURE_BYTES:] == [b"00%02X" % byte for byte in area], "%s is another plate when its recording is played" % name)
         print("desk: %s: %s" % (name, ", ".join("%d pixels of shade %d" % (count, shade) for shade, count in enumerate(shades(area)))))

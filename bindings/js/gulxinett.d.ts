@@ -72,7 +72,7 @@ export interface Choice {
   level: number;
   /** Off, the upper left three values of the matrix stand for all; without it on. */
   dithering?: boolean;
-  /** Exposure steps up to 65,535; unnamed they are 0300h. */
+  /** Exposure steps up to 65,535; unnamed they are 1000h. */
   exposure?: number;
 }
 

@@ -347,7 +347,7 @@ class Cartridge:
 
     def choose(self, *, light, level, dithering=True, exposure=None):
         """Writes the matrix of a light set (0 high light, 1 low light) and a level (0 the lowest contrast, 7 the default,
-        15 the highest) and the exposure, 0300h if none is named; nothing else changes, and no capture held."""
+        15 the highest) and the exposure, 1000h if none is named; nothing else changes, and no capture held."""
         self._open()
         light, level = _up_to(0xFF, "the light set", light), _up_to(0xFF, "the level", level)
         if not isinstance(dithering, bool):

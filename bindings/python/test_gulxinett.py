@@ -116,7 +116,7 @@ class Recording(unittest.TestCase):
         start = len(cartridge.recording())
         cartridge.choose(light=1, level=7)
         low, state = b"\x8c\x98\xac", cartridge.save().state
-        self.assertEqual((state[15:17], state[19:22]), (b"\x03\x00", low))
+        self.assertEqual((state[15:17], state[19:22]), (b"\x10\x00", low))
         kept = [place for place in range(STATE_BYTES) if place not in (15, 16) and not 19 <= place < 67]
         self.assertEqual([state[place] for place in kept], [before.state[place] for place in kept])
         self.assertEqual(cartridge.save(), before._replace(state=state))

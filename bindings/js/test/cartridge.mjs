@@ -193,7 +193,7 @@ function choices() {
   cartridge.choose({ light: 1, level: 7 });
   const low = [0x8c, 0x98, 0xac];
   const { state } = cartridge.save();
-  assert.deepEqual([...state.subarray(15, 17), ...state.subarray(19, 22)], [3, 0, ...low]);
+  assert.deepEqual([...state.subarray(15, 17), ...state.subarray(19, 22)], [0x10, 0, ...low]);
   const written = (place) => place === 15 || place === 16 || (place >= 19 && place < 67);
   state.forEach((byte, place) => assert.ok(written(place) || byte === before.state[place], `byte ${place}`));
   assert.deepEqual(cartridge.save(), { ...before, state });

@@ -142,7 +142,7 @@ pub struct Choice {
     pub level: u8,
     /// Off, the upper left three values of the matrix stand for all.
     pub dithering: bool,
-    /// Exposure steps; unnamed it is 0300h.
+    /// Exposure steps; unnamed it is 1000h.
     pub exposure: Option<u16>,
 }
 

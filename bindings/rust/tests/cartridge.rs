@@ -128,7 +128,7 @@ fn choices_write_their_registers_alone() {
     due.registers = cartridge.state().registers;
     assert_eq!(*cartridge.state(), due);
     assert_eq!(due.registers[..2], before.registers[..2]);
-    assert_eq!(due.registers[2..4], [3, 0]);
+    assert_eq!(due.registers[2..4], [0x10, 0]);
     assert_eq!(due.registers[4..6], before.registers[4..6]);
     assert_eq!(due.registers[6..9], [0x8C, 0x98, 0xAC]);
     assert!(cartridge.area() == area && cartridge.save().store == store);

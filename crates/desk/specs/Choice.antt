@@ -14,10 +14,10 @@ use Rattle.desk.specs.declared.choice.Exposure.{Exposure}
 use Rattle.desk.specs.declared.choice.Exposure.the-variants as exposures
 use Rattle.desk.specs.Levels.{levels}
 
--- Exposure may be left unnamed and is then 0300h
+-- Exposure may be left unnamed and is then 1000h
 abbrev pub stepsOf : Exposure → ℕ
 stepsOf (exposures.Named n) = n
-stepsOf exposures.Unnamed = 0x0300
+stepsOf exposures.Unnamed = 0x1000
 
 -- the matrix of a light set and a level begins here in the table: level 0 first, of each level light set 0 first
 abbrev pub matrixFrom : ℕ → ℕ → ℕ

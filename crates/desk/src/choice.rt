@@ -24,13 +24,13 @@ pub enum Exposure {
 // The state handed back, and the answer: done, or why not.
 pub type Chosen = WriteDone;
 
-// The exposure's steps; 0300h where none is named.
+// The exposure's steps; 1000h where none is named.
 fn steps(exposure: Exposure) -> u16
     ensures { λ r. ⌜ r ≡ stepsOf exposure ⌝ }
 {
     match exposure {
         Exposure::Named(n) => n,
-        Exposure::Unnamed => 0x0300,
+        Exposure::Unnamed => 0x1000,
     }
 }
 

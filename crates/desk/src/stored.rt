@@ -1,4 +1,4 @@
-// Choices that desks know by name, each with its exposure unnamed.
+// Choices that desks know by name, each for a bright table.
 use super::choice::Chosen;
 use super::choice::Exposure;
 use super::choice::choose;
@@ -17,7 +17,7 @@ pub struct Stored {
     pub exposure: Exposure,
 }
 
-// A choice for a bright table: light set 0, exposure unnamed.
+// A choice for a bright table: light set 0, exposure 0300h.
 fn bright_table(level: u8, plain: bool) -> Stored
     ensures { λ r. ⌜ r ≡ brightTable level plain ⌝ }
 {
@@ -25,7 +25,7 @@ fn bright_table(level: u8, plain: bool) -> Stored
         light: 0,
         level,
         plain,
-        exposure: Exposure::Unnamed,
+        exposure: Exposure::Named(0x0300),
     }
 }
 
