@@ -1,13 +1,19 @@
-//! The picture area as a grey image, a Netpbm file of kind P5.
+//! The picture area as a grey image, a Netpbm file of kind P5, out and in, and as shades.
 
 use crate::bus::check_ram;
-use crate::picture::{OCTET, PIXELS, PLATE_AREA};
-use crate::{Refusal, PICTURE_HEIGHT, PICTURE_WIDTH};
+use crate::picture::{OCTET, PLATE_AREA};
+use crate::{Plate, Refusal, State, PICTURE_WIDTH, PIXELS, PLATE_BYTES};
+use std::ops::Range;
 
 /// What every file starts with.
 const HEADER: &[u8] = b"P5\n128 112\n255\n";
 /// Bytes of a file, header and pixels.
 pub const GREY_FILE_BYTES: usize = HEADER.len() + PIXELS;
+
+/// Bytes of a tile of 8 by 8 pixels.
+const TILE: usize = 16;
+/// Bytes of the tiles beside each other.
+const TILE_ROW: usize = TILE * PICTURE_WIDTH / 8;
 
 /// A one in each of the eight bytes of a word.
 const ONES: u64 = u64::from_ne_bytes([1; OCTET]);
@@ -23,6 +29,26 @@ pub fn export(ram: &[u8], buffer: &mut [u8]) -> Result<(), Refusal> {
     Ok(())
 }
 
+/// Reads the picture area into a lent buffer, one shade a byte; its later bytes stay.
+pub fn shades(ram: &[u8], buffer: &mut [u8]) -> Result<(), Refusal> {
+    check_ram(ram)?;
+    let pixels = buffer.get_mut(..PIXELS).ok_or(Refusal::Buffer)?;
+    each_octet(&ram[PLATE_AREA], pixels, |shades| shades);
+    Ok(())
+}
+
+/// Places a file as [`export`] writes it in the picture area, RAM writing enabled or not.
+pub fn place(state: &State, ram: &mut [u8], file: &[u8]) -> Result<(), Refusal> {
+    state.check()?;
+    check_ram(ram)?;
+    let plate = plate_of(file).ok_or(Refusal::File)?;
+    if state.held {
+        return Err(Refusal::Held);
+    }
+    ram[PLATE_AREA].copy_from_slice(&plate);
+    Ok(())
+}
+
 /// Writes the header and returns the place of the pixels.
 fn put_header(buffer: &mut [u8]) -> Result<&mut [u8], Refusal> {
     let file = buffer.get_mut(..GREY_FILE_BYTES).ok_or(Refusal::Buffer)?;
@@ -31,11 +57,31 @@ fn put_header(buffer: &mut [u8]) -> Result<&mut [u8], Refusal> {
     Ok(pixels)
 }
 
+/// The tiles of a file; none if its header, length or a grey is another.
+fn plate_of(file: &[u8]) -> Option<Plate> {
+    let pixels = file.strip_prefix(HEADER)?;
+    if pixels.len() != PIXELS {
+        return None;
+    }
+    let mut plate = [0; PLATE_BYTES];
+    let mut strange = 0;
+    for (y, row) in pixels.chunks_exact(PICTURE_WIDTH).enumerate() {
+        let tiles = plate[tile_row(y)].chunks_exact_mut(TILE);
+        for (octet, tile) in row.chunks_exact(OCTET).zip(tiles) {
+            let dark = !u64::from_le_bytes(octet.try_into().ok()?);
+            let (low, high) = (dark & ONES, dark >> 1 & ONES);
+            strange |= dark ^ ((low + 2 * high) * SHADE_STEP);
+            tile[2 * (y % 8)] = gather(low);
+            tile[2 * (y % 8) + 1] = gather(high);
+        }
+    }
+    (strange == 0).then_some(plate)
+}
+
 /// Makes a byte of every picture pixel, row by row, from the shades of eight, the left one lowest.
 fn each_octet(plate: &[u8], pixels: &mut [u8], make: impl Fn(u64) -> u64) {
-    let rows = pixels.chunks_exact_mut(PICTURE_WIDTH);
-    for (y, row) in (0..PICTURE_HEIGHT).zip(rows) {
-        let tiles = plate[256 * (y / 8)..][..256].chunks_exact(16);
+    for (y, row) in pixels.chunks_exact_mut(PICTURE_WIDTH).enumerate() {
+        let tiles = plate[tile_row(y)].chunks_exact(TILE);
         for (octet, tile) in row.chunks_exact_mut(OCTET).zip(tiles) {
             let (low, high) = (tile[2 * (y % 8)], tile[2 * (y % 8) + 1]);
             let shades = spread(low) + 2 * spread(high);
@@ -44,9 +90,22 @@ fn each_octet(plate: &[u8], pixels: &mut [u8], make: impl Fn(u64) -> u64) {
     }
 }
 
+/// Where the sixteen tiles lie that have some of a picture row.
+fn tile_row(y: usize) -> Range<usize> {
+    let first = TILE_ROW * (y / 8);
+    first..first + TILE_ROW
+}
+
 /// The bits of a byte as eight bytes, bit 7 in the lowest.
 fn spread(byte: u8) -> u64 {
     const BITS: u64 = u64::from_le_bytes([0x80, 0x40, 0x20, 0x10, 8, 4, 2, 1]);
     let bits = (u64::from(byte) * ONES) & BITS;
     ((bits + 0x7F * ONES) >> 7) & ONES
+}
+
+/// Eight bytes of 0 or 1 as the bits of a byte, the lowest as bit 7; the undoing of [`spread`].
+fn gather(bits: u64) -> u8 {
+    // Byte x goes to bit 63 - x, and no two products meet.
+    const PLACES: u64 = 0x8040_2010_0804_0201;
+    (bits.wrapping_mul(PLACES) >> 56) as u8
 }

@@ -2,8 +2,9 @@
 //!
 //! [`State`] is the record the controller keeps; ROM, RAM, image and frame store are lent as slices.
 //! [`read`], [`write`], [`tick`], [`inspect`] and [`picture`] are the calls, [`Session`] is the bus script,
-//! and [`Frame::write_line`] writes its lines. [`export`] makes a grey image of the picture area, and
-//! [`import`] an image of a colour photograph. [`choose`] sets a contrast level by its number.
+//! and [`Frame::write_line`] writes its lines. [`export`] makes a grey image of the picture area,
+//! [`place`] puts one back and [`shades`] reads the area; [`import`] makes an image of a colour
+//! photograph. [`choose`] sets a contrast level by its number.
 
 #![forbid(unsafe_code)]
 
@@ -25,10 +26,12 @@ pub use bus::{inspect, read, tick, write, Element};
 pub use capture::Timing;
 pub use colour::import;
 pub use desk::choose;
-pub use grey::{export, GREY_FILE_BYTES};
+pub use grey::{export, place, shades, GREY_FILE_BYTES};
 pub use levels::CONTRAST_LEVELS;
 pub use lines::{Lines, LONGEST_LINE};
-pub use picture::{picture, Plate, PICTURE_HEIGHT, PICTURE_WIDTH, PLATE_BYTES, PLATE_OFFSET};
+pub use picture::{
+    picture, Plate, PICTURE_HEIGHT, PICTURE_WIDTH, PIXELS, PLATE_BYTES, PLATE_OFFSET,
+};
 pub use refusal::Refusal;
 pub use script::{Frame, Session};
 pub use state::{State, LAYOUT, RECORD_BYTES, REGISTERS};

@@ -8,6 +8,8 @@ use std::ops::Range;
 pub const PICTURE_WIDTH: usize = SENSOR_WIDTH;
 /// Rows of the picture.
 pub const PICTURE_HEIGHT: usize = 112;
+/// Pixels of the picture.
+pub const PIXELS: usize = PICTURE_WIDTH * PICTURE_HEIGHT;
 /// Where the picture lies in RAM bank 0.
 pub const PLATE_OFFSET: usize = 0x100;
 /// Bytes of the picture: two bits a pixel.
@@ -17,8 +19,6 @@ pub const PLATE_BYTES: usize = PIXELS / 4;
 pub(crate) const PLATE_AREA: Range<usize> = PLATE_OFFSET..PLATE_OFFSET + PLATE_BYTES;
 /// The sensor row that is picture row 0.
 pub(crate) const FIRST_ROW: usize = 8;
-/// Pixels of the picture.
-pub(crate) const PIXELS: usize = PICTURE_WIDTH * PICTURE_HEIGHT;
 /// The first register of the matrix.
 pub(crate) const MATRIX: usize = 6;
 

@@ -22,6 +22,8 @@ pub enum Refusal {
     File = 8,
     /// There is no such light set or contrast level.
     Choice = 9,
+    /// A capture is held, running or standing still.
+    Held = 10,
 }
 
 impl Refusal {
