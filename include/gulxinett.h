@@ -29,6 +29,7 @@
  *   7  a buffer lent is too short
  *   8  a file is not one that can be read
  *   9  the light set of a choice is above 1, or its level above 15
+ *  10  a capture is held, running or stopped
  *
  * The memory lent to one call must not overlap, and is not kept after the call.
  */
@@ -50,6 +51,7 @@ extern "C" {
 #define GULXINETT_FRAME_LEN 16384
 #define GULXINETT_PICTURE_LEN 3584
 #define GULXINETT_PLATE_LEN 14351
+#define GULXINETT_SHADES_LEN 14336
 
 /* An image row, and the longest script line with its LF, which is a row's. */
 #define GULXINETT_ROW_LEN 128
@@ -141,6 +143,19 @@ uint64_t gulxinett_record_row(uint8_t row,
  * 14,351 bytes; bytes beyond stay. The RAM is read straight: a half picture is written as it
  * stands. Refused as 3, then as 7. Value: 14351. */
 uint64_t gulxinett_export(const uint8_t *ram, size_t ram_len,
+                          uint8_t *out, size_t out_len);
+
+/* Places a grey image as gulxinett_export writes it, with exactly its header and length and no grey but 0,
+ * 85, 170 and 255, in the picture area of RAM bank 0, whether or not RAM writing is enabled; no other
+ * byte changes, nor the state. Refused as 1, 3, 8, then as 10 while a capture is held. Value 0. */
+uint64_t gulxinett_place(const uint8_t *state, size_t state_len,
+                         uint8_t *ram, size_t ram_len,
+                         const uint8_t *file, size_t file_len);
+
+/* Writes the picture area of RAM bank 0 as shades, one a byte: 128 by 112 of them row by row, 0 white to
+ * 3 black, 14,336 bytes; bytes beyond stay. The RAM is read straight, as by gulxinett_export.
+ * Refused as 3, then as 7. Value: 14336. */
+uint64_t gulxinett_shades(const uint8_t *ram, size_t ram_len,
                           uint8_t *out, size_t out_len);
 
 /* Reads a colour photograph, a Netpbm file of kind P6, 128 by 128 pixels with largest value 255, into an

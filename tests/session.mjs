@@ -5,12 +5,15 @@
 // goes to OUT.script, and what each call answered, as the program bus says it, to OUT.answers. With 'plate' the
 // picture area is read out by calls at the end, and must be the plate.
 import { existsSync, readFileSync, writeFileSync } from "node:fs";
-import { FRAME_BYTES, PICTURE_BYTES, RAM_BANK, REGISTERS, Refusal, STATE_BYTES, load } from "../bindings/js/gulxinett.js";
+import { FRAME_BYTES, PICTURE_BYTES, PLATE_BYTES, RAM_BANK, REGISTERS, Refusal, STATE_BYTES, load } from "../bindings/js/gulxinett.js";
 
 const TRIGGER = 0xa000;
 const AREA = 0xa100;
+const PLATE_HEADER = new TextEncoder().encode("P5\n128 112\n255\n");
 /** A choice amounts to select, 2 registers of the exposure, 48 of the matrix, and select. */
 const CHOICE_WRITES = 52;
+/** A placing amounts to RAM writing, select, the bytes of the area, select, and RAM writing. */
+const PLACE_WRITES = 3588;
 const { Cartridge } = await load();
 
 /** Numbers below a limit, by a seed. */
@@ -60,7 +63,8 @@ class Session {
     else if (kind < 65) this.write(0x4000, [0, 0x10][this.below(2)]);
     else if (kind < 70) this.write(TRIGGER, this.below(8));
     else if (kind < 95) this.tick(this.cycles());
-    else this.look();
+    else if (kind < 99) this.look();
+    else this.place();
   }
 
   address() {
@@ -106,12 +110,30 @@ class Session {
     for (let write = 0; write < CHOICE_WRITES; write++) this.answers.push("00");
   }
 
+  /** A plate, which may be none, placed: like a choice it has no line of its own. */
+  place() {
+    const [light, slope, strange] = [this.below(256), this.below(256), this.below(4) === 0];
+    const file = new Uint8Array(PLATE_BYTES);
+    file.set(PLATE_HEADER);
+    const pixels = file.subarray(PLATE_HEADER.length);
+    pixels.forEach((_, place) => (pixels[place] = [255, 170, 85, 0][((light + slope * place + 7 * (place >> 7)) >> 6) & 3]));
+    if (strange) pixels[this.below(pixels.length)] = 1;
+    try {
+      this.cartridge.place(file);
+    } catch (error) {
+      if (!(error instanceof Refusal && [8, 10].includes(error.number))) throw error;
+      return;
+    }
+    for (let write = 0; write < PLACE_WRITES; write++) this.answers.push("00");
+  }
+
   /** What only looks is no call of a script. */
   look() {
     this.cartridge.inspect();
     this.cartridge.picture();
     this.cartridge.area();
     this.cartridge.plate();
+    this.cartridge.shades();
     this.cartridge.save();
   }
 

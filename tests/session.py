@@ -7,12 +7,15 @@ import sys
 from pathlib import Path
 
 sys.path.insert(0, str(Path(__file__).resolve().parents[1] / "bindings" / "python"))
-from gulxinett import FRAME_BYTES, PICTURE_BYTES, RAM_BANK, REGISTERS, STATE_BYTES, Cartridge, Refusal
+from gulxinett import FRAME_BYTES, PICTURE_BYTES, PLATE_BYTES, RAM_BANK, REGISTERS, STATE_BYTES, Cartridge, Refusal
 
 TRIGGER = 0xA000
 AREA = 0xA100
+PLATE_HEADER = b"P5\n128 112\n255\n"
 # a choice amounts to select, 2 registers of the exposure, 48 of the matrix, and select
 CHOICE_WRITES = 52
+# a placing amounts to RAM writing, select, the bytes of the area, select, and RAM writing
+PLACE_WRITES = 3588
 
 
 class Session:
@@ -67,8 +70,10 @@ class Session:
             self.write(TRIGGER, self.below(8))
         elif kind < 95:
             self.tick(self.cycles())
-        else:
+        elif kind < 99:
             self.look()
+        else:
+            self.place()
 
     def address(self):
         kind = self.below(4)
@@ -112,12 +117,29 @@ class Session:
             return
         self.answers += ["00"] * CHOICE_WRITES
 
+    def place(self):
+        """A plate, which may be none, placed: like a choice it has no line of its own."""
+        light, slope, strange = self.below(256), self.below(256), self.below(4) == 0
+        pixels = bytearray(
+            (255, 170, 85, 0)[(light + slope * place + 7 * (place >> 7)) >> 6 & 3] for place in range(PLATE_BYTES - len(PLATE_HEADER))
+        )
+        if strange:
+            pixels[self.below(len(pixels))] = 1
+        try:
+            self.cartridge.place(PLATE_HEADER + pixels)
+        except Refusal as refusal:
+            if refusal.number not in (8, 10):
+                raise
+            return
+        self.answers += ["00"] * PLACE_WRITES
+
     def look(self):
         """What only looks is no call of a script."""
         self.cartridge.inspect()
         self.cartridge.picture()
         self.cartridge.area()
         self.cartridge.plate()
+        self.cartridge.shades()
         self.cartridge.save()
 
     def read_out(self):

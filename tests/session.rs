@@ -4,7 +4,8 @@
 //! usage: session SAVE OUT SEED STEPS [plate]; session.mjs has what the words mean
 
 use gulxinett::{
-    Cartridge, Choice, Refusal, Save, FRAME_BYTES, PICTURE_BYTES, RAM_BANK, REGISTERS, STATE_BYTES,
+    Cartridge, Choice, Refusal, Save, FRAME_BYTES, PICTURE_BYTES, PLATE_BYTES, RAM_BANK, REGISTERS,
+    STATE_BYTES,
 };
 use std::error::Error;
 use std::fs;
@@ -12,8 +13,11 @@ use std::path::Path;
 
 const TRIGGER: u16 = 0xA000;
 const AREA: u16 = 0xA100;
+const PLATE_HEADER: &[u8] = b"P5\n128 112\n255\n";
 /// A choice amounts to select, 2 registers of the exposure, 48 of the matrix, and select.
 const CHOICE_WRITES: usize = 52;
+/// A placing amounts to RAM writing, select, the bytes of the area, select, and RAM writing.
+const PLACE_WRITES: usize = 3588;
 
 struct Session {
     cartridge: Cartridge,
@@ -99,7 +103,8 @@ impl Session {
                 let cycles = self.cycles();
                 self.tick(cycles);
             }
-            _ => self.look(),
+            95..=98 => self.look(),
+            _ => self.place(),
         }
     }
 
@@ -166,6 +171,23 @@ impl Session {
         }
     }
 
+    /// A plate, which may be none, placed: like a choice it has no line of its own.
+    fn place(&mut self) {
+        let (light, slope) = (self.below(256) as usize, self.below(256) as usize);
+        let strange = self.below(4) == 0;
+        let shade = |place: usize| (light + slope * place + 7 * (place >> 7)) >> 6 & 3;
+        let mut file = PLATE_HEADER.to_vec();
+        let pixels = PLATE_BYTES - file.len();
+        file.extend((0..pixels).map(|place| [255, 170, 85, 0][shade(place)]));
+        if strange {
+            file[PLATE_HEADER.len() + self.below(pixels as u32) as usize] = 1;
+        }
+        match self.cartridge.place(&file) {
+            Ok(()) => (0..PLACE_WRITES).for_each(|_| self.note(Ok(String::new()))),
+            Err(refusal) => assert!([Refusal::File, Refusal::Held].contains(&refusal)),
+        }
+    }
+
     /// What only looks is no call of a script.
     fn look(&self) {
         let picture = self.cartridge.picture();
@@ -174,6 +196,7 @@ impl Session {
         element.expect("the state can exist");
         self.cartridge.area();
         self.cartridge.plate();
+        self.cartridge.shades();
         self.cartridge.save();
     }
 

@@ -12,7 +12,7 @@
 
 static uint8_t state[GULXINETT_STATE_LEN], rom[GULXINETT_ROM_BANK_LEN], ram[GULXINETT_RAM_BANK_LEN];
 static uint8_t store[GULXINETT_FRAME_LEN], image[GULXINETT_FRAME_LEN], picture[GULXINETT_PICTURE_LEN];
-static uint8_t line[GULXINETT_LINE_LEN], plate[GULXINETT_PLATE_LEN];
+static uint8_t line[GULXINETT_LINE_LEN], plate[GULXINETT_PLATE_LEN], shades[GULXINETT_SHADES_LEN];
 static uint8_t photograph[15 + 3 * GULXINETT_FRAME_LEN] = "P6\n128 128\n255\n";
 static uint8_t room[ROOM];
 static ucontext_t here, there;
@@ -61,6 +61,8 @@ static void everything(void)
         gulxinett_choose(state, sizeof state, mode & 1, (uint8_t)mode, mode & 2, GULXINETT_UNNAMED);
         record();
         gulxinett_export(ram, sizeof ram, plate, sizeof plate);
+        gulxinett_place(state, sizeof state, ram, sizeof ram, plate, sizeof plate);
+        gulxinett_shades(ram, sizeof ram, shades, sizeof shades);
         gulxinett_import_photo(photograph, sizeof photograph, image, sizeof image);
     }
 }

@@ -21,6 +21,8 @@ export const PICTURE_BYTES: 3584;
 export const PICTURE_OFFSET: 256;
 /** Bytes of a plate as a Netpbm P5 file: a header of 15, then one for each of 128 by 112 pixels. */
 export const PLATE_BYTES: 14351;
+/** Bytes of a plate as shades: one for each of its pixels, 0 white to 3 black. */
+export const SHADES_BYTES: 14336;
 
 /**
  * A call that was refused; it changed nothing.
@@ -28,7 +30,8 @@ export const PLATE_BYTES: 14351;
  * 1 the state record can't exist, 2 the ROM length is not allowed, 3 the RAM length is not allowed, 4 the image
  * or the frame store is not 16,384 bytes, 5 the address is outside 0000-7FFF and A000-BFFF, 6 a script line or
  * image row is malformed, 7 the room lent for what is written is too short, 8 the file is not one
- * that can be read, 9 the light set of a choice is above 1 or its level above 15.
+ * that can be read, 9 the light set of a choice is above 1 or its level above 15, 10 a capture is held, running
+ * or stopped.
  */
 export class Refusal extends Error {
   constructor(number: number, sentence?: string);
@@ -119,6 +122,13 @@ export interface Cartridge {
   area(): Uint8Array;
   /** The picture area as it stands, as a grey image: a Netpbm P5 file of 14,351 bytes, white 255 and black 0. */
   plate(): Uint8Array;
+  /**
+   * Places a grey image as `plate` makes it in the picture area, whether or not RAM writing is enabled; not while a
+   * capture is held. A recorder has it as the bus writes that it amounts to, unless it is refused.
+   */
+  place(file: Bytes): void;
+  /** The picture area as it stands, one shade a byte, 0 white to 3 black: 14,336 of them, row by row. */
+  shades(): Uint8Array;
   /** Copies of state, RAM and frame store. */
   save(): Save;
   /** Gives the memory back to the next cartridge; closing twice is no error. */

@@ -23,11 +23,14 @@ export const PICTURE_OFFSET = 0x100;
 
 /** Bytes of a plate as a Netpbm P5 file: a header of 15, then one for each of 128 by 112 pixels. */
 export const PLATE_BYTES = 14_351;
+/** Bytes of a plate as shades: one for each of its pixels, 0 white to 3 black. */
+export const SHADES_BYTES = 14_336;
 
 /** The exposure that names none. */
 const UNNAMED = 0x1_0000;
 
-/** Where select, the two counts of captures and the registers stand in the state record. */
+/** Where RAM write enable, select, the two counts of captures and the registers stand in the state record. */
+const ENABLE_OFFSET = 1;
 const SELECT_OFFSET = 3;
 const STARTED_OFFSET = 9;
 const ENDED_OFFSET = 11;
@@ -46,6 +49,7 @@ const SENTENCES = {
   7: "the room lent for what is written is too short",
   8: "the file is not one that can be read",
   9: "the light set is above 1 or the level above 15",
+  10: "a capture is held, running or stopped",
 };
 
 /** A call that was refused, by its number; it changed nothing. */
@@ -329,6 +333,24 @@ function bound(exports) {
       return withCopies({ file: new Uint8Array(PLATE_BYTES) }, ({ file }) => {
         valueOf(exports.gulxinett_export(...lent(ram, file)));
         return file.bytes.slice();
+      });
+    }
+
+    /** Places a grey image as `plate` makes it in the picture area; not while a capture is held. */
+    place(file) {
+      const { state, ram, image } = this.#open();
+      withCopies({ file: bytesOf("the plate", file) }, ({ file }) => {
+        valueOf(exports.gulxinett_place(...lent(state, ram, file)));
+      });
+      this.#recorder?.place(image.bytes, this.area(), state.bytes[SELECT_OFFSET], state.bytes[ENABLE_OFFSET]);
+    }
+
+    /** The picture area as it stands, one shade a byte, 0 white to 3 black. */
+    shades() {
+      const { ram } = this.#open();
+      return withCopies({ shades: new Uint8Array(SHADES_BYTES) }, ({ shades }) => {
+        valueOf(exports.gulxinett_shades(...lent(ram, shades)));
+        return shades.bytes.slice();
       });
     }
 

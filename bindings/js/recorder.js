@@ -54,6 +54,18 @@ export class Recorder {
     this.write(image, 0x4000, select);
   }
 
+  /**
+   * Notes a placing, which left this area, as the writes it amounts to: RAM writing on, select to bank 0, the bytes of the
+   * area, select and RAM writing back.
+   */
+  place(image, area, select, enabled) {
+    this.write(image, 0x0000, 0x0a);
+    this.write(image, 0x4000, 0);
+    area.forEach((value, place) => this.write(image, 0xa100 + place, value));
+    this.write(image, 0x4000, select);
+    this.write(image, 0x0000, enabled ? 0x0a : 0);
+  }
+
   /** Another image is lent: the rows that changed, and the first time all. */
   lend(before, now) {
     const old = rowsOf(before);

@@ -33,12 +33,15 @@ PICTURE_OFFSET = 0x100
 
 #: Bytes of a plate as a Netpbm P5 file: a header of 15, then one for each of 128 by 112 pixels.
 PLATE_BYTES = 14_351
+#: Bytes of a plate as shades: one for each of its pixels, 0 white to 3 black.
+SHADES_BYTES = 14_336
 
 # The exposure that names none.
 _UNNAMED = 0x1_0000
 # Where the registers that a choice writes stand among the 54: exposure, then the matrix.
 _CHOSEN = (2, 3, *range(6, REGISTERS))
-# Where select, the two counts of captures and the registers stand in the state record.
+# Where RAM write enable, select, the two counts of captures and the registers stand in the state record.
+_ENABLE_OFFSET = 1
 _SELECT_OFFSET = 3
 _STARTED_OFFSET = 9
 _ENDED_OFFSET = 11
@@ -61,6 +64,7 @@ _SENTENCES = {
     7: "the room lent for what is written is too short",
     8: "the file is not one that can be read",
     9: "the light set is above 1 or the level above 15",
+    10: "a capture is held, running or stopped",
 }
 
 # What each function is given: lent memory is a place and a length, a bare place has a length that is settled.
@@ -80,6 +84,8 @@ _FUNCTIONS = {
     "record_tick": (ctypes.c_uint32,) + _LENT,
     "record_row": (ctypes.c_uint8,) + _LENT * 2,
     "export": _LENT * 2,
+    "place": _LENT * 3,
+    "shades": _LENT * 2,
     "import_photo": _LENT * 2,
 }
 
@@ -247,6 +253,16 @@ class _Recorder:
             self.write(image, 0xA000 + number, state[_REGISTERS_OFFSET + number])
         self.write(image, 0x4000, state[_SELECT_OFFSET])
 
+    def place(self, image, state, area):
+        """Notes a placing, which left this area and kept this state, as the writes it amounts to: RAM writing on,
+        select to bank 0, the bytes of the area, select and RAM writing back."""
+        self.write(image, 0x0000, 0x0A)
+        self.write(image, 0x4000, 0)
+        for address, byte in enumerate(area, 0xA100):
+            self.write(image, address, byte)
+        self.write(image, 0x4000, state[_SELECT_OFFSET])
+        self.write(image, 0x0000, 0x0A if state[_ENABLE_OFFSET] else 0)
+
     def lend(self, before, now):
         """Another image is lent: the rows that changed, and the first time all."""
         before, now = bytes(before), bytes(now)
@@ -409,6 +425,22 @@ class Cartridge:
         file = (ctypes.c_ubyte * PLATE_BYTES)()
         _call("export", *_lent(self._ram, file))
         return bytes(file)
+
+    def place(self, file):
+        """Places a grey image as `plate` makes it in the picture area, whether or not RAM writing is enabled; not while
+        a capture is held."""
+        self._open()
+        file = _memory("the plate", file)
+        _call("place", *_lent(self._state, self._ram, file))
+        if self._recorder:
+            self._recorder.place(self._image, self._state, self.area())
+
+    def shades(self):
+        """The picture area as it stands, one shade a byte, 0 white to 3 black: 14,336 of them, row by row."""
+        self._open()
+        shades = (ctypes.c_ubyte * SHADES_BYTES)()
+        _call("shades", *_lent(self._ram, shades))
+        return bytes(shades)
 
     def save(self):
         """Copies of state, RAM and frame store."""

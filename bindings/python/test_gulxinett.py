@@ -14,7 +14,8 @@ from pathlib import Path
 
 import gulxinett
 from gulxinett import (
-    FRAME_BYTES, LAYOUT, PICTURE_BYTES, RAM_BANK, REGISTERS, ROM_BANK, STATE_BYTES, Cartridge, Refusal, layout_of, picture,
+    FRAME_BYTES, LAYOUT, PICTURE_BYTES, RAM_BANK, REGISTERS, ROM_BANK, SHADES_BYTES, STATE_BYTES, Cartridge, Refusal, layout_of,
+    picture,
 )
 
 ROOT = Path(__file__).resolve().parents[2]
@@ -53,6 +54,18 @@ def photograph(header):
     pixels = bytes((i * 7 + (i >> 8)) & 255 for i in range(3 * FRAME_BYTES))
     image = bytes((2 * r + 5 * g + b) // 8 for r, g, b in zip(pixels[::3], pixels[1::3], pixels[2::3]))
     return header + pixels, image
+
+
+def plate(number):
+    """A plate of its own for each number, with the four greys and no other."""
+    greys = ((255, 170, 85, 0)[(i * (7 + 2 * number) + (i >> 7)) >> 6 & 3] for i in range(128 * 112))
+    return b"P5\n128 112\n255\n" + bytes(greys)
+
+
+def place_lines(area, select, enable):
+    """The lines of a placing: RAM writing on, select to bank 0, the area, and both back."""
+    writes = [(0x0000, 0x0A), (0x4000, 0), *enumerate(area, 0xA100), (0x4000, select), (0x0000, enable)]
+    return b"".join(b"02%04X%02X\n" % write for write in writes)
 
 
 class Recording(unittest.TestCase):
@@ -144,6 +157,18 @@ class Recording(unittest.TestCase):
         self.assertEqual(cartridge.tick(0xFFFF_FFFF), TOTAL - 20_000)
         self.assertEqual(cartridge.area(), picture(frame(1), TAKEN))
 
+    def test_placings(self):
+        for select, enable in ((0x00, 0x00), (0x05, 0x0A), (0x13, 0x00), (0x1F, 0x0A)):
+            cartridge = Cartridge()
+            cartridge.write(0x4000, select)
+            cartridge.write(0x0000, enable)
+            before = cartridge.save()
+            cartridge.record()
+            cartridge.place(plate(1))
+            self.assertRaises(Refusal, cartridge.place, plate(1)[1:])
+            self.assertEqual(cartridge.recording(), place_lines(cartridge.area(), select, enable))
+            self.assertEqual(cartridge.save().state, before.state)
+
     def test_an_image_that_a_script_does_not_begin_with_is_told_before_a_write(self):
         restored, lent = Cartridge.restore(Cartridge().save()), Cartridge()
         lent.lend(frame(1))
@@ -195,6 +220,28 @@ class Calls(unittest.TestCase):
             area = cartridge.area()
             pixels = bytes(grey(area, x, y) for y in range(112) for x in range(128))
             self.assertEqual(cartridge.plate(), b"P5\n128 112\n255\n" + pixels)
+
+    def test_plates_back_into_the_cartridge(self):
+        cartridge = begun(1)
+        cartridge.tick(0xFFFF_FFFF)
+        file, area = cartridge.plate(), cartridge.area()
+        other = Cartridge(ram=b"\x33" * (16 * RAM_BANK))
+        due = other.save()
+        other.place(bytearray(file))
+        self.assertEqual((other.area(), other.plate()), (area, file))
+        # what is placed is all that has changed
+        self.assertEqual(other.save(), due._replace(ram=due.ram[:0x100] + area + due.ram[0xF00:]))
+        for number in (1, 2, 3):
+            other.place(plate(number))
+            self.assertEqual(other.plate(), plate(number))
+
+    def test_shades(self):
+        cartridge = begun(1)
+        for cycles in (0, 20_000, 0xFFFF_FFFF):
+            cartridge.tick(cycles)
+            shades = cartridge.shades()
+            self.assertEqual(len(shades), SHADES_BYTES)
+            self.assertEqual(bytes(255 - 85 * shade for shade in shades), cartridge.plate()[15:])
 
     def test_bytes_of_any_kind(self):
         kinds = bytes, bytearray, memoryview, lambda value: array.array("B", value)
@@ -255,6 +302,30 @@ class BadInput(unittest.TestCase):
             with self.assertRaisesRegex(ValueError, "the registers must be 54 bytes"):
                 picture(frame(1), bytes(length))
         self.assertEqual(whole(cartridge), before)
+
+    def test_placings(self):
+        good = plate(1)
+        cartridge = begun(1)
+        cartridge.tick(20_000)
+        cartridge.record()
+        for trigger in (3, 2):
+            cartridge.write(0xA000, trigger)
+            before, recording = whole(cartridge), cartridge.recording()
+            self.refused(10, cartridge.place, good)
+            self.refused(8, cartridge.place, good[1:])
+            self.assertEqual((whole(cartridge), cartridge.recording()), (before, recording))
+        cartridge.write(0xA000, 3)
+        cartridge.tick(0xFFFF_FFFF)
+        before, recording = whole(cartridge), cartridge.recording()
+        for place, byte in ((1, 0x36), (2, 0x20), (15, 1), (16, 254), (14_350, 86)):
+            self.refused(8, cartridge.place, good[:place] + bytes([byte]) + good[place + 1 :])
+        for none in (b"", good[:15], good[:-1], good + b"\0"):
+            self.refused(8, cartridge.place, none)
+        with self.assertRaisesRegex(TypeError, "the plate must be bytes, not str"):
+            cartridge.place("P5")
+        self.assertEqual((whole(cartridge), cartridge.recording()), (before, recording))
+        cartridge.place(good)
+        self.assertEqual(cartridge.plate(), good)
 
     def test_a_refusal_of_another_process(self):
         passed = pickle.loads(pickle.dumps(Refusal(3)))
@@ -344,7 +415,8 @@ class BadInput(unittest.TestCase):
         cartridge.close()
         uses = {
             "reset": (), "read": (0,), "write": (0xA000, 0), "tick": (1,), "inspect": (), "lend": (frame(1),), "lend_photo": (b"",),
-            "choose": {"light": 0, "level": 0}, "picture": (), "area": (), "plate": (), "save": (), "record": (), "recording": (),
+            "choose": {"light": 0, "level": 0}, "picture": (), "area": (), "plate": (), "place": (b"",), "shades": (), "save": (),
+            "record": (), "recording": (),
         }
         for name, words in uses.items():
             with self.assertRaisesRegex(ValueError, "the cartridge is closed"):

@@ -8,7 +8,7 @@ import { fileURLToPath } from "node:url";
 import * as gulxinett from "../gulxinett.js";
 import { Memory } from "../memory.js";
 
-const { FRAME_BYTES, LAYOUT, PICTURE_BYTES, PLATE_BYTES, RAM_BANK, REGISTERS, ROM_BANK, Refusal, STATE_BYTES, layoutOf, load } = gulxinett;
+const { FRAME_BYTES, LAYOUT, PICTURE_BYTES, PLATE_BYTES, RAM_BANK, REGISTERS, ROM_BANK, Refusal, SHADES_BYTES, STATE_BYTES, layoutOf, load } = gulxinett;
 const place = new URL("../gulxinett.wasm", import.meta.url);
 const bytes = readFileSync(place);
 const { Cartridge, picture } = await load();
@@ -136,9 +136,67 @@ function plates() {
     const plate = cartridge.plate();
     assert.equal(plate.length, PLATE_BYTES);
     assert.equal(Buffer.compare(plate, fileOf(cartridge.area())), 0);
+    const shades = cartridge.shades();
+    assert.equal(shades.length, SHADES_BYTES);
+    assert.deepEqual(shades.map((shade) => 255 - 85 * shade), plate.subarray(15));
   }
   cartridge.close();
-  say("plates as grey images: before a capture, half way and whole");
+  say("plates as grey images and as shades: before a capture, half way and whole");
+}
+
+/** A plate of its own for each number, with the four greys and no other. */
+const plateOf = (number) =>
+  Buffer.concat([
+    Buffer.from("P5\n128 112\n255\n"),
+    Uint8Array.from({ length: 128 * 112 }, (_, i) => [255, 170, 85, 0][((i * (7 + 2 * number) + (i >> 7)) >> 6) & 3]),
+  ]);
+
+/** Plates placed: their bytes and nothing else, their writes in a recording, and what is turned away. */
+function placings() {
+  const cartridge = begin(new Cartridge(), 1);
+  cartridge.tick(20_000);
+  cartridge.record();
+  const all = () => [whole(cartridge), cartridge.recording()];
+  const good = plateOf(1);
+  for (const trigger of [3, 2]) {
+    cartridge.write(0xa000, trigger);
+    const before = all();
+    refused(10, () => cartridge.place(good));
+    refused(8, () => cartridge.place(good.subarray(1)));
+    assert.deepEqual(all(), before);
+  }
+  cartridge.write(0xa000, 3);
+  cartridge.tick(0xffff_ffff);
+  const before = all();
+  for (const [place, byte] of [[1, 0x36], [2, 0x20], [15, 1], [16, 254], [14_350, 86]]) {
+    refused(8, () => cartridge.place(Uint8Array.from(good, (old, at) => (at === place ? byte : old))));
+  }
+  for (const none of [[], good.subarray(0, 15), good.subarray(0, 14_350), [...good, 0]]) refused(8, () => cartridge.place(Uint8Array.from(none)));
+  throws(TypeError, "the plate must be", () => cartridge.place("P5"));
+  assert.deepEqual(all(), before);
+  const [file, area] = [cartridge.plate(), cartridge.area()];
+  cartridge.close();
+  const line = (address, value) => `02${Buffer.from([address >> 8, address, value]).toString("hex").toUpperCase()}\n`;
+  for (const [select, enable] of [[0x00, 0x00], [0x05, 0x0a], [0x13, 0x00], [0x1f, 0x0a]]) {
+    const other = new Cartridge({ ram: new Uint8Array(16 * RAM_BANK).fill(0x33) });
+    other.write(0x4000, select);
+    other.write(0x0000, enable);
+    other.record();
+    const { state, ram, store } = other.save();
+    other.place(file);
+    ram.set(area, 0x100);
+    assert.deepEqual(other.save(), { state, ram, store });
+    assert.deepEqual(other.plate(), file);
+    const bytes = Array.from(area, (byte, place) => line(0xa100 + place, byte)).join("");
+    const due = line(0x0000, 0x0a) + line(0x4000, 0) + bytes + line(0x4000, select) + line(0x0000, enable);
+    assert.equal(Buffer.from(other.recording()).toString(), due);
+    for (const number of [1, 2, 3]) {
+      other.place(plateOf(number));
+      assert.equal(Buffer.compare(other.plate(), plateOf(number)), 0);
+    }
+    other.close();
+  }
+  say("plates placed, their 3,588 writes recorded; 14 turned away");
 }
 
 /** A colour photograph under a header, and its image, worked out here. */
@@ -490,8 +548,8 @@ function closed() {
   const before = [whole(other), whole(next)];
   cartridge.close();
   const uses = {
-    reset: [], read: [0], write: [0xa000, 0], tick: [1], inspect: [], choose: [{ light: 0, level: 0 }], lend: [frame(1)], lendPhoto: [frame(1)], picture: [], area: [], plate: [], save: [],
-    record: [], recording: [],
+    reset: [], read: [0], write: [0xa000, 0], tick: [1], inspect: [], choose: [{ light: 0, level: 0 }], lend: [frame(1)], lendPhoto: [frame(1)], picture: [], area: [], plate: [],
+    place: [frame(1)], shades: [], save: [], record: [], recording: [],
   };
   for (const [name, words] of Object.entries(uses)) throws(Error, "the cartridge is closed", () => cartridge[name](...words));
   throws(Error, "the cartridge is closed", () => cartridge.picture(frame(1), registers));
@@ -507,6 +565,7 @@ types();
 await loading();
 calls();
 plates();
+placings();
 photographs();
 choices();
 recorder();

@@ -18,7 +18,7 @@ impl Answer {
     pub fn result(self) -> Result<u32, Refusal> {
         match (self.0 >> 32) as u32 {
             0 => Ok(self.0 as u32),
-            number => Err(Refusal::from_number(number).expect("a refusal is 1 to 9")),
+            number => Err(Refusal::from_number(number).expect("a refusal is 1 to 10")),
         }
     }
 }
@@ -171,6 +171,30 @@ pub fn record_row(row: u8, bytes: &[u8], out: &mut [u8]) -> Answer {
 pub fn export(ram: &[u8], out: &mut [u8]) -> Answer {
     // SAFETY: each pointer and length are those of one slice, and the mutable one is apart.
     Answer(unsafe { ffi::gulxinett_export(ram.as_ptr(), ram.len(), out.as_mut_ptr(), out.len()) })
+}
+
+/// Places a P5 file as [`export`] writes it in the picture area, whether or not RAM writing is enabled; the
+/// value is 0. A file of another kind is refused as [`Refusal::File`], any while a capture is held as
+/// [`Refusal::Held`].
+pub fn place(state: &[u8], ram: &mut [u8], file: &[u8]) -> Answer {
+    // SAFETY: each pointer and length are those of one slice, and the mutable one is apart.
+    Answer(unsafe {
+        ffi::gulxinett_place(
+            state.as_ptr(),
+            state.len(),
+            ram.as_mut_ptr(),
+            ram.len(),
+            file.as_ptr(),
+            file.len(),
+        )
+    })
+}
+
+/// Writes the picture area as shades, one a byte; the value is how many, 14,336. Bytes of `out` beyond them
+/// stay, and a shorter `out` is refused as [`Refusal::Room`].
+pub fn shades(ram: &[u8], out: &mut [u8]) -> Answer {
+    // SAFETY: each pointer and length are those of one slice, and the mutable one is apart.
+    Answer(unsafe { ffi::gulxinett_shades(ram.as_ptr(), ram.len(), out.as_mut_ptr(), out.len()) })
 }
 
 /// Reads a colour photograph, a Netpbm P6 file of 128 by 128 pixels, into an image; the value is 0. A file

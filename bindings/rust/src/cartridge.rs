@@ -3,7 +3,7 @@
 use crate::recorder::Recorder;
 use crate::{
     bytes, choose, inspect, picture, read, reset, tick, write, Choice, Element, Refusal, State,
-    FRAME_BYTES, PICTURE_BYTES, PICTURE_OFFSET, PLATE_BYTES, RAM_BANK, ROM_BANK,
+    FRAME_BYTES, PICTURE_BYTES, PICTURE_OFFSET, PLATE_BYTES, RAM_BANK, ROM_BANK, SHADES_BYTES,
 };
 
 /// State, ROM, RAM, frame store and the image lent. Dropping it is closing it.
@@ -207,6 +207,33 @@ impl Cartridge {
         let written = bytes::export(&self.ram, &mut file).result();
         written.expect("the RAM has an allowed length, and there is room");
         file
+    }
+
+    /// Places a grey image as [`Cartridge::plate`] makes it in the picture area, whether or not RAM writing
+    /// is enabled; not while a capture is held. A recorder has it as the bus writes that it amounts
+    /// to, unless it is refused.
+    pub fn place(&mut self, file: &[u8]) -> Result<(), Refusal> {
+        bytes::place(&self.state.encode(), &mut self.ram, file).result()?;
+        let Cartridge {
+            state,
+            ram,
+            image,
+            recorder,
+            ..
+        } = self;
+        if let Some(recorder) = recorder {
+            let area = &ram[PICTURE_OFFSET..PICTURE_OFFSET + PICTURE_BYTES];
+            recorder.place(image, state, area);
+        }
+        Ok(())
+    }
+
+    /// The picture area as it stands, one shade a byte, 0 white to 3 black: 14,336 of them, row by row.
+    pub fn shades(&self) -> Vec<u8> {
+        let mut shades = vec![0; SHADES_BYTES];
+        let written = bytes::shades(&self.ram, &mut shades).result();
+        written.expect("the RAM has an allowed length, and there is room");
+        shades
     }
 
     /// The state record as it stands.

@@ -72,6 +72,17 @@ extern "C" {
 
     pub fn gulxinett_export(ram: *const u8, ram_len: usize, out: *mut u8, out_len: usize) -> u64;
 
+    pub fn gulxinett_place(
+        state: *const u8,
+        state_len: usize,
+        ram: *mut u8,
+        ram_len: usize,
+        file: *const u8,
+        file_len: usize,
+    ) -> u64;
+
+    pub fn gulxinett_shades(ram: *const u8, ram_len: usize, out: *mut u8, out_len: usize) -> u64;
+
     pub fn gulxinett_import_photo(
         file: *const u8,
         file_len: usize,

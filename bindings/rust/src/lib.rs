@@ -38,6 +38,8 @@ pub const PICTURE_BYTES: usize = 3_584;
 pub const PICTURE_OFFSET: usize = 0x100;
 /// Bytes of a plate as a Netpbm P5 file: a header of 15, then one for each of 128 by 112 pixels.
 pub const PLATE_BYTES: usize = 14_351;
+/// Bytes of a plate as shades: one for each of its pixels, 0 white to 3 black.
+pub const SHADES_BYTES: usize = 14_336;
 /// Bytes of a row of the image.
 pub const ROW_BYTES: usize = 128;
 /// Bytes of the longest line of a bus script, that of an image row, with its LF.
@@ -66,10 +68,12 @@ pub enum Refusal {
     File,
     /// The light set of a choice is above 1, or its level above 15.
     Choice,
+    /// A capture is held, running or stopped.
+    Held,
 }
 
 impl Refusal {
-    /// The interface's number, 1 to 9.
+    /// The interface's number, 1 to 10.
     pub const fn number(self) -> u8 {
         match self {
             Refusal::State | Refusal::Layout(_) => 1,
@@ -81,6 +85,7 @@ impl Refusal {
             Refusal::Room => 7,
             Refusal::File => 8,
             Refusal::Choice => 9,
+            Refusal::Held => 10,
         }
     }
 
@@ -92,7 +97,7 @@ impl Refusal {
         }
     }
 
-    /// The refusal of a number; none outside 1 to 9.
+    /// The refusal of a number; none outside 1 to 10.
     pub const fn from_number(number: u32) -> Option<Refusal> {
         Some(match number {
             1 => Refusal::State,
@@ -104,6 +109,7 @@ impl Refusal {
             7 => Refusal::Room,
             8 => Refusal::File,
             9 => Refusal::Choice,
+            10 => Refusal::Held,
             _ => return None,
         })
     }
@@ -127,6 +133,7 @@ impl std::fmt::Display for Refusal {
             Refusal::Room => "the room lent for what is written is too short",
             Refusal::File => "the file is not one that can be read",
             Refusal::Choice => "the light set is above 1 or the level above 15",
+            Refusal::Held => "a capture is held, running or stopped",
         })
     }
 }

@@ -53,6 +53,18 @@ impl Recorder {
         self.write(image, 0x4000, state.ram_select);
     }
 
+    /// A placing, which left this area and kept this state, has no line of its own: RAM writing on,
+    /// select to bank 0, the bytes of the area, select and RAM writing back.
+    pub fn place(&mut self, image: &[u8], state: &State, area: &[u8]) {
+        self.write(image, 0x0000, 0x0A);
+        self.write(image, 0x4000, 0);
+        for (address, &byte) in (0xA100..).zip(area) {
+            self.write(image, address, byte);
+        }
+        self.write(image, 0x4000, state.ram_select);
+        self.write(image, 0x0000, if state.ram_enabled { 0x0A } else { 0 });
+    }
+
     pub fn tick(&mut self, cycles: u32) {
         self.append(|out| bytes::record_tick(cycles, out));
     }

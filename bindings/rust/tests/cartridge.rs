@@ -2,7 +2,7 @@
 
 use gulxinett::{
     bytes, layout_of, picture, Cartridge, Choice, Element, Refusal, Save, FRAME_BYTES, LAYOUT,
-    PICTURE_BYTES, PLATE_BYTES, RAM_BANK, REGISTERS, ROM_BANK, STATE_BYTES,
+    PICTURE_BYTES, PLATE_BYTES, RAM_BANK, REGISTERS, ROM_BANK, SHADES_BYTES, STATE_BYTES,
 };
 
 const TOTAL: u32 = 32_958 + 16 * 0x80;
@@ -102,6 +102,120 @@ fn exports_that_are_refused() {
     assert_eq!(export(&[0; RAM_BANK - 1], short), Err(Refusal::Ram));
     assert_eq!(room, [0xA5; PLATE_BYTES]);
     assert_eq!(export(&[0; RAM_BANK], &mut room), Ok(PLATE_BYTES as u32));
+}
+
+/// A plate of its own for each number, with the four greys and no other.
+fn plate(number: usize) -> Vec<u8> {
+    let grey = |i: usize| [255, 170, 85, 0][(i * (7 + 2 * number) + i / 128) / 64 % 4];
+    let header = b"P5\n128 112\n255\n".iter().copied();
+    header.chain((0..128 * 112).map(grey)).collect()
+}
+
+/// The lines of a placing: RAM writing on, select to bank 0, the area, and both back.
+fn place_lines(area: &[u8], select: u8, enable: u8) -> String {
+    let byte = |(place, byte): (usize, &u8)| format!("02{:04X}{byte:02X}\n", 0xA100 + place);
+    let area: String = area.iter().enumerate().map(byte).collect();
+    format!("0200000A\n02400000\n{area}024000{select:02X}\n020000{enable:02X}\n")
+}
+
+#[test]
+fn plates_back_into_the_cartridge() -> Result<(), Refusal> {
+    let mut cartridge = half_way();
+    cartridge.tick(u32::MAX)?;
+    let (file, area) = (cartridge.plate(), cartridge.area().to_vec());
+    let mut other = Cartridge::new(vec![0; ROM_BANK], vec![0x33; 16 * RAM_BANK])?;
+    let mut due = other.clone();
+    other.place(&file)?;
+    assert!(other.area() == area && other.plate() == file);
+    // what is placed is all that has changed
+    due.write(0x0000, 0x0A)?;
+    for (address, &byte) in (0xA100..).zip(&area) {
+        due.write(address, byte)?;
+    }
+    due.write(0x0000, 0)?;
+    assert!(other == due);
+    assert_ne!(plate(1), file);
+    for number in 1..4 {
+        other.place(&plate(number))?;
+        assert!(other.plate() == plate(number));
+    }
+    Ok(())
+}
+
+#[test]
+fn placings_are_recorded_as_writes() -> Result<(), Refusal> {
+    for (select, enable) in [(0x00, 0x00), (0x05, 0x0A), (0x13, 0x00), (0x1F, 0x0A)] {
+        let mut cartridge = Cartridge::default();
+        cartridge.write(0x4000, select)?;
+        cartridge.write(0x0000, enable)?;
+        cartridge.record();
+        cartridge.place(&plate(1))?;
+        assert_eq!(cartridge.place(&plate(1)[1..]), Err(Refusal::File));
+        let due = place_lines(cartridge.area(), select, enable);
+        assert!(cartridge.recording() == due.as_bytes());
+    }
+    Ok(())
+}
+
+#[test]
+fn placings_that_are_refused() -> Result<(), Refusal> {
+    let good = plate(1);
+    let mut cartridge = half_way();
+    cartridge.record();
+    let mut before = cartridge.clone();
+    assert_eq!(cartridge.place(&good), Err(Refusal::Held));
+    assert_eq!(cartridge.place(&good[1..]), Err(Refusal::File));
+    assert!(cartridge == before);
+    cartridge.write(0xA000, 2)?;
+    before = cartridge.clone();
+    assert_eq!(cartridge.place(&good), Err(Refusal::Held));
+    assert!(cartridge == before);
+    cartridge.write(0xA000, 3)?;
+    cartridge.tick(u32::MAX)?;
+    before = cartridge.clone();
+    for (place, byte) in [(1, b'6'), (2, b' '), (15, 1), (16, 254), (14_350, 86)] {
+        let mut file = good.clone();
+        file[place] = byte;
+        assert_eq!(cartridge.place(&file), Err(Refusal::File));
+    }
+    for file in [
+        &[],
+        &good[..15],
+        &good[..14_350],
+        &[&good[..], &[0]].concat(),
+    ] {
+        assert_eq!(cartridge.place(file), Err(Refusal::File));
+    }
+    assert!(cartridge == before);
+    cartridge.place(&good)?;
+    assert!(cartridge.plate() == good);
+    let place = |state: &[u8], ram: &mut [u8], file: &[u8]| bytes::place(state, ram, file).result();
+    let state = half_way().save().state;
+    let mut ram = [0xA5; RAM_BANK];
+    assert_eq!(place(&[], &mut ram[1..], &[]), Err(Refusal::State));
+    assert_eq!(place(&state, &mut ram[1..], &[]), Err(Refusal::Ram));
+    assert_eq!(ram, [0xA5; RAM_BANK]);
+    Ok(())
+}
+
+#[test]
+fn shades_of_the_area() {
+    let mut cartridge = half_way();
+    for _ in 0..2 {
+        let shades = cartridge.shades();
+        assert_eq!(shades.len(), SHADES_BYTES);
+        let greys = shades.iter().map(|&shade| 255 - 85 * shade);
+        assert!(greys.eq(cartridge.plate()[15..].iter().copied()));
+        cartridge.tick(u32::MAX).unwrap();
+    }
+    let shades = |ram: &[u8], out: &mut [u8]| bytes::shades(ram, out).result();
+    let mut room = [0xA5; SHADES_BYTES + 1];
+    let short = &mut room[2..];
+    assert_eq!(shades(&[0; RAM_BANK], short), Err(Refusal::Room));
+    assert_eq!(shades(&[0; RAM_BANK - 1], short), Err(Refusal::Ram));
+    assert_eq!(room, [0xA5; SHADES_BYTES + 1]);
+    assert_eq!(shades(&[0; RAM_BANK], &mut room), Ok(SHADES_BYTES as u32));
+    assert_eq!((room[SHADES_BYTES - 1], room[SHADES_BYTES]), (0, 0xA5));
 }
 
 fn export(ram: &[u8], out: &mut [u8]) -> Result<u32, Refusal> {
