@@ -151,6 +151,11 @@ function kinds(steps, memories, exports) {
       const words = [steps.byte(), steps.byte(), steps.byte(), steps.word()];
       return [`choose ${words}`, () => exports.gulxinett_choose(...lent("state"), ...words)];
     },
+    () => ["place", () => exports.gulxinett_place(...lent("state", "ram", "file"))],
+    () => {
+      makeRoom();
+      return ["shades", () => exports.gulxinett_shades(...lent("ram", "out"))];
+    },
   ];
 }
 

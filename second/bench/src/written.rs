@@ -1,31 +1,37 @@
-//! What is written into lent memory: frames as script lines, a plate as a file, a photograph as an image.
+//! What is written into lent memory: frames as script lines, a plate as a file and back, its shades, a
+//! photograph as an image.
 
 use crate::timing::{self, sample, Effort, Spread};
 use gulxinett::bytes;
-use second::{Frame, FRAME_BYTES, GREY_FILE_BYTES};
+use second::{Frame, State, FRAME_BYTES, GREY_FILE_BYTES, PIXELS, RECORD_BYTES};
 use std::hint::black_box;
 
 const LINE: usize = 261;
-const PIXELS: usize = 128;
+const ROW: usize = 128;
 
 /// Writes something with a number in it.
 type Writer = fn(&mut Lent, u32);
 
 /// What a writer is lent.
 struct Lent {
-    row: [u8; PIXELS],
+    row: [u8; ROW],
+    state: [u8; RECORD_BYTES],
     ram: Vec<u8>,
     room: [u8; GREY_FILE_BYTES],
+    plate: Vec<u8>,
     photo: Vec<u8>,
     image: Vec<u8>,
 }
 
-/// Times both on a row of the image, a write, a plate and a photograph; returns what each writes in a second.
-pub fn measure(effort: Effort) -> [String; 4] {
+/// Times both on a row of the image, a write, a plate out and in, its shades and a photograph; returns
+/// what each writes in a second.
+pub fn measure(effort: Effort) -> [String; 6] {
     [
         compare("row lines", effort, proved_row, second_row),
         compare("write lines", effort, proved_write, second_write),
         compare("plates as files", effort, proved_file, second_file),
+        compare("plates placed", effort, proved_place, second_place),
+        compare("plates as shades", effort, proved_shades, second_shades),
         compare("photographs read", effort, proved_photo, second_photo),
     ]
 }
@@ -33,8 +39,10 @@ pub fn measure(effort: Effort) -> [String; 4] {
 fn compare(what: &str, effort: Effort, proved: Writer, second: Writer) -> String {
     let mut lent = Lent {
         row: std::array::from_fn(|place| place as u8 * 37),
+        state: State::RESET.to_bytes(),
         ram: (0..8_192).map(|place| (place * place / 7) as u8).collect(),
         room: [0; GREY_FILE_BYTES],
+        plate: plate(),
         photo: photograph(),
         image: vec![0; FRAME_BYTES],
     };
@@ -96,6 +104,39 @@ fn second_file(lent: &mut Lent, number: u32) {
     lent.ram[0x100] = number as u8;
     let written = second::export(&lent.ram, &mut lent.room);
     assert_eq!(written, Ok(()));
+}
+
+/// A plate with some of every grey.
+fn plate() -> Vec<u8> {
+    let header = b"P5\n128 112\n255\n".iter().copied();
+    let greys = (0..PIXELS).map(|place| [255, 170, 85, 0][place * place / 11 % 4]);
+    header.chain(greys).collect()
+}
+
+fn proved_place(lent: &mut Lent, number: u32) {
+    lent.plate[0x100] = if number % 2 == 0 { 85 } else { 170 };
+    let answer = bytes::place(&lent.state, &mut lent.ram, &lent.plate);
+    assert_eq!(answer.0, 0);
+}
+
+/// The state is read from its bytes, as the archive reads it.
+fn second_place(lent: &mut Lent, number: u32) {
+    lent.plate[0x100] = if number % 2 == 0 { 85 } else { 170 };
+    let state = State::from_bytes(&lent.state).expect("a record is lent");
+    let placed = second::place(&state, &mut lent.ram, &lent.plate);
+    assert_eq!(placed, Ok(()));
+}
+
+fn proved_shades(lent: &mut Lent, number: u32) {
+    lent.ram[0x100] = number as u8;
+    let answer = bytes::shades(&lent.ram, &mut lent.room);
+    assert_eq!(answer.0, PIXELS as u64);
+}
+
+fn second_shades(lent: &mut Lent, number: u32) {
+    lent.ram[0x100] = number as u8;
+    let read = second::shades(&lent.ram, &mut lent.room);
+    assert_eq!(read, Ok(()));
 }
 
 /// A colour photograph, with a comment as scanners write them.

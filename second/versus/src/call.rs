@@ -41,6 +41,12 @@ pub enum Call {
     Export {
         room: usize,
     },
+    /// The file lent, placed in the picture area.
+    Place,
+    /// The picture area as shades, into so many bytes.
+    Shades {
+        room: usize,
+    },
     /// A light set and a level, without dithering unless plain is 0, and an exposure, none above FFFF.
     Choose {
         light: u8,
@@ -55,10 +61,16 @@ pub enum Call {
         kind: u8,
         seed: u64,
     },
-    /// Another file is lent from here on.
+    /// Another file, which may be a photograph, is lent from here on.
     File {
         seed: u64,
     },
+    /// Another file, which may be a plate, is lent from here on.
+    Plate {
+        seed: u64,
+    },
+    /// The picture area as it stands is the file lent from here on.
+    Keep,
     /// Memory of another length is lent from here on.
     Lend {
         what: Lent,
@@ -75,7 +87,12 @@ impl Call {
     pub fn is_call(&self) -> bool {
         !matches!(
             self,
-            Call::Image { .. } | Call::File { .. } | Call::Lend { .. } | Call::Put { .. }
+            Call::Image { .. }
+                | Call::File { .. }
+                | Call::Plate { .. }
+                | Call::Keep
+                | Call::Lend { .. }
+                | Call::Put { .. }
         )
     }
 }
@@ -98,6 +115,8 @@ impl fmt::Display for Call {
             }
             Call::Record { frame, room } => write!(f, "{frame:?} recorded in {room} bytes"),
             Call::Export { room } => write!(f, "export in {room} bytes"),
+            Call::Place => write!(f, "placing of the file lent"),
+            Call::Shades { room } => write!(f, "shades in {room} bytes"),
             Call::Choose {
                 light,
                 level,
@@ -110,6 +129,8 @@ impl fmt::Display for Call {
             Call::Import => write!(f, "import of the file lent"),
             Call::Image { kind, seed } => write!(f, "image of kind {kind}, seed {seed}"),
             Call::File { seed } => write!(f, "file of seed {seed}"),
+            Call::Plate { seed } => write!(f, "plate of seed {seed}"),
+            Call::Keep => write!(f, "the picture area kept as the file lent"),
             Call::Lend { what, length } => write!(f, "lend {what:?} of {length} bytes"),
             Call::Put { record } => write!(f, "state {}", hex(record)),
         }

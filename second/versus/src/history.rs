@@ -4,9 +4,9 @@ use crate::answers::Answers;
 use crate::call::{Call, Lent};
 use crate::lines;
 use crate::random::Random;
-use crate::sides::{Beginning, Pair};
-use crate::sweep::{export_room, first_layout, EXPOSURES};
-use second::{State, Timing};
+use crate::sides::{refused, Beginning, Pair};
+use crate::sweep::{first_layout, room_for, EXPOSURES};
+use second::{Refusal, State, Timing, GREY_FILE_BYTES, PIXELS};
 use std::collections::VecDeque;
 
 /// Addresses at the edges of the areas and of the picture.
@@ -26,6 +26,8 @@ pub struct History<'a> {
     pub captures: u64,
     /// Files made while a capture was running.
     pub halves: u64,
+    /// Files placed, and those turned away while a capture was held.
+    pub placed: [u64; 2],
     /// A start was seen, so that its end makes a whole capture.
     started: bool,
 }
@@ -54,6 +56,7 @@ impl<'a> History<'a> {
             compared: 0,
             captures: 0,
             halves: 0,
+            placed: [0; 2],
             started: false,
         }
     }
@@ -73,6 +76,11 @@ impl<'a> History<'a> {
                 answers.call(&call, answer, &self.pair.second);
             }
             self.compared += u64::from(call.is_call());
+            if let Call::Place = call {
+                let counted = [0, refused(Refusal::Held.number().into())];
+                let counts = counted.iter().zip(&mut self.placed);
+                counts.for_each(|(&due, count)| *count += u64::from(answer == due));
+            }
             self.count_captures(&call, before);
         }
         Ok(())
@@ -140,11 +148,17 @@ impl<'a> History<'a> {
                 62..=65 => self.plan_photo(),
                 66..=70 => {
                     return Call::Export {
-                        room: export_room(self.random),
+                        room: room_for(GREY_FILE_BYTES, self.random),
                     }
                 }
                 71..=80 => return self.record(),
-                81..=480 => {
+                81..=85 => self.plan_placing(),
+                86..=88 => {
+                    return Call::Shades {
+                        room: room_for(PIXELS, self.random),
+                    }
+                }
+                89..=480 => {
                     return Call::Read {
                         address: self.address(),
                     }
@@ -202,6 +216,27 @@ impl<'a> History<'a> {
         let seed = self.random.next() >> 40;
         self.planned.push_back(Call::File { seed });
         self.planned.push_back(Call::Import);
+    }
+
+    /// Lends a file, which may be none that can be placed, or keeps the area for later; the file lent is
+    /// placed, as captures leave it or after what runs has ended.
+    fn plan_placing(&mut self) {
+        match self.random.below(4) {
+            0 => {}
+            1 => self.planned.push_back(Call::Keep),
+            _ => {
+                let seed = self.random.next() >> 40;
+                self.planned.push_back(Call::Plate { seed });
+            }
+        }
+        if self.random.once_in(2) {
+            for (address, value) in [(0x4000, 0x10), (0xA000, 1)] {
+                self.planned.push_back(Call::Write { address, value });
+            }
+            let cycles = u32::MAX;
+            self.planned.push_back(Call::Tick { cycles });
+        }
+        self.planned.push_back(Call::Place);
     }
 
     /// Registers that start a capture, with exposures at which pixels differ more often than not.

@@ -13,6 +13,7 @@ mod call;
 mod history;
 mod lines;
 mod photos;
+mod plates;
 mod random;
 mod script;
 mod shrink;
@@ -110,7 +111,13 @@ fn compare(calls: u64, seed: u64, answers: Option<Answers>) -> Option<Option<Ans
     let before = tally.compared;
     sweep::exports(&mut tally, &mut random);
     println!(
-        "plates as files: {} calls compared",
+        "plates as files and shades: {} calls compared",
+        tally.compared - before
+    );
+    let before = tally.compared;
+    let placed = plates::compare(&mut tally, &mut random);
+    println!(
+        "plates placed: {} calls compared, {placed} of them of files that are placed",
         tally.compared - before
     );
     let before = tally.compared;
@@ -128,7 +135,7 @@ fn compare(calls: u64, seed: u64, answers: Option<Answers>) -> Option<Option<Ans
         .take(SHOWN)
         .for_each(|difference| println!("DIFFERENCE: {difference}"));
     let mut differences = tally.differences.len();
-    let (mut compared, mut captures, mut halves) = (0, 0, 0);
+    let (mut compared, mut captures, mut halves, mut placed) = (0, 0, 0, [0; 2]);
     while compared < calls && differences < SHOWN {
         let mut history = History::new(&mut random);
         if let Err(difference) = history.play(HISTORY.min(calls - compared), tally.answers.as_mut())
@@ -139,10 +146,13 @@ fn compare(calls: u64, seed: u64, answers: Option<Answers>) -> Option<Option<Ans
         compared += history.compared;
         captures += history.captures;
         halves += history.halves;
+        placed = [0, 1].map(|what| placed[what] + history.placed[what]);
     }
     println!(
         "histories: {compared} calls compared, {captures} whole captures, \
-         {halves} files made while a capture was running"
+         {halves} files made while a capture was running, {} plates placed and {} turned away \
+         while a capture was held",
+        placed[0], placed[1]
     );
     println!(
         "seed {seed}: {} calls compared in all, {captures} whole captures, {differences} differences, {:.1} s",

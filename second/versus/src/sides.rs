@@ -2,6 +2,7 @@
 
 use crate::call::{hex, Call, Lent};
 use crate::photos;
+use crate::plates;
 use crate::random::Random;
 use gulxinett::bytes;
 use second::{Frame, State};
@@ -64,9 +65,19 @@ impl Side {
         match call {
             Call::Image { kind, seed } => paint(&mut self.image, *kind, *seed),
             Call::File { seed } => self.file = photos::random_file(&mut Random::new(*seed)),
+            Call::Plate { seed } => self.file = plates::random_file(&mut Random::new(*seed)),
+            Call::Keep => self.keep(),
             Call::Lend { what, length } => self.lent(*what).resize(*length, 0x3C),
             Call::Put { record } => self.state = record.to_vec(),
             _ => {}
+        }
+    }
+
+    /// Makes the file of the picture area, or none if there is no such RAM.
+    fn keep(&mut self) {
+        self.file = vec![0; second::GREY_FILE_BYTES];
+        if second::export(&self.ram, &mut self.file).is_err() {
+            self.file.clear();
         }
     }
 
@@ -88,6 +99,13 @@ impl Side {
         }
         if let Call::Import = call {
             return bytes::import_photo(&self.file, &mut self.image).0;
+        }
+        if let Call::Place = call {
+            return bytes::place(&self.state, &mut self.ram, &self.file).0;
+        }
+        if let Call::Shades { room } = call {
+            self.make_room(*room);
+            return bytes::shades(&self.ram, &mut self.out).0;
         }
         let Side {
             state,
@@ -140,6 +158,10 @@ impl Side {
         if let Call::Import = call {
             return self.import_second();
         }
+        if let Call::Shades { room } = call {
+            self.make_room(*room);
+            return self.shades_second();
+        }
         let Some(mut state) = State::from_bytes(&self.state) else {
             return refused(1);
         };
@@ -148,6 +170,7 @@ impl Side {
             ram,
             store,
             image,
+            file,
             ..
         } = self;
         let result = match call {
@@ -156,6 +179,7 @@ impl Side {
                 second::write(&mut state, ram, store, image, *address, *value).map(|()| 0)
             }
             Call::Tick { cycles } => second::tick(&mut state, ram, store, *cycles),
+            Call::Place => second::place(&state, ram, file).map(|()| 0),
             Call::Inspect => second::inspect(&state).map(|element| {
                 element.map_or(0, |e| 0x100 + 16 * u32::from(e.row) + u32::from(e.column))
             }),
@@ -187,6 +211,14 @@ impl Side {
         written.map_or_else(
             |refusal| refused(refusal.number().into()),
             |()| second::GREY_FILE_BYTES as u64,
+        )
+    }
+
+    fn shades_second(&mut self) -> u64 {
+        let read = second::shades(&self.ram, &mut self.out);
+        read.map_or_else(
+            |refusal| refused(refusal.number().into()),
+            |()| second::PIXELS as u64,
         )
     }
 
@@ -319,6 +351,8 @@ impl Pair {
             Call::Record { .. } => &[("line", &a.out, &b.out)],
             Call::Export { .. } => &[("RAM", &a.ram, &b.ram), ("file", &a.out, &b.out)],
             Call::Import => &[("image", &a.image, &b.image), ("file", &a.file, &b.file)],
+            Call::Place => &[("RAM", &a.ram, &b.ram), ("file", &a.file, &b.file)],
+            Call::Shades { .. } => &[("RAM", &a.ram, &b.ram), ("shades", &a.out, &b.out)],
             _ => &[],
         };
         let state = parted("state", &a.state, &b.state)

@@ -8,7 +8,7 @@ use crate::sides::{paint, parted, refused, Beginning, Pair, Side};
 use second::{Frame, State};
 
 /// Something to lend or give, and whether it is to be refused.
-type Choice<T> = (T, bool);
+pub type Choice<T> = (T, bool);
 
 /// Counts comparisons, keeps the first differences and notes the answers if asked to.
 #[derive(Default)]
@@ -82,7 +82,7 @@ pub fn first_layout(record: &[u8]) -> Vec<u8> {
 }
 
 /// Records that are refused or not, one for each reason.
-fn records() -> Vec<Choice<Vec<u8>>> {
+pub fn records() -> Vec<Choice<Vec<u8>>> {
     let free = State::RESET;
     let mut held = State {
         held: true,
@@ -177,7 +177,7 @@ const ROMS: [Choice<usize>; 8] = [
     (16_385, true),
     (49_152, true),
 ];
-const RAMS: [Choice<usize>; 8] = [
+pub const RAMS: [Choice<usize>; 8] = [
     (8_192, false),
     (16_384, false),
     (32_768, false),
@@ -410,8 +410,8 @@ fn every_level() -> impl Iterator<Item = (u8, u8)> {
     levels.flat_map(|level| [0, 1, 2, 3, 128, 255].map(|light| (light, level)))
 }
 
-/// Random RAM of every count of banks, and of lengths that are none, as files in buffers long enough
-/// and too short.
+/// Random RAM of every count of banks, and of lengths that are none, as files and as shades in buffers
+/// long enough and too short.
 pub fn exports(tally: &mut Tally, random: &mut Random) {
     let mut side = Pair::new(&Beginning {
         rom_banks: 1,
@@ -425,8 +425,8 @@ pub fn exports(tally: &mut Tally, random: &mut Random) {
         let no_ram = ![1, 2, 4, 8, 16]
             .map(|banks| banks * 8_192)
             .contains(&length);
-        let random_rooms = std::array::from_fn::<_, 8, _>(|_| export_room(random));
-        for room in [0, 1, 15, 14_350, 14_351, 14_352]
+        let random_rooms = std::array::from_fn::<_, 8, _>(|_| room_for(14_351, random));
+        for room in [0, 1, 15, 14_335, 14_336, 14_337, 14_350, 14_351, 14_352]
             .into_iter()
             .chain(random_rooms)
         {
@@ -434,16 +434,18 @@ pub fn exports(tally: &mut Tally, random: &mut Random) {
             random.fill(&mut side.ram);
             let due = lowest(&[(3, no_ram), (7, room < 14_351)]);
             tally.compare(&side, &Call::Export { room }, due);
+            let due = lowest(&[(3, no_ram), (7, room < 14_336)]);
+            tally.compare(&side, &Call::Shades { room }, due);
         }
     }
 }
 
-/// Room for a file, more often than not enough.
-pub fn export_room(random: &mut Random) -> usize {
+/// Room for so many bytes, more often than not enough.
+pub fn room_for(bytes: usize, random: &mut Random) -> usize {
     match random.below(4) {
-        0 => random.below(14_351) as usize,
-        1 => 14_351 + random.below(1_000) as usize,
-        _ => 14_351,
+        0 => random.below(bytes as u32) as usize,
+        1 => bytes + random.below(1_000) as usize,
+        _ => bytes,
     }
 }
 
