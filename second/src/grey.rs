@@ -1,7 +1,7 @@
-//! The picture area as a grey image, a Netpbm file of kind P5, out and in, and as shades.
+//! The picture area as a grey image, a Netpbm file of kind P5, out and in, and as shades; the readings too.
 
-use crate::bus::check_ram;
-use crate::picture::{OCTET, PLATE_AREA};
+use crate::bus::{check_frame, check_ram};
+use crate::picture::{self, OCTET, PLATE_AREA};
 use crate::{Plate, Refusal, State, PICTURE_WIDTH, PIXELS, PLATE_BYTES};
 use std::ops::Range;
 
@@ -23,9 +23,22 @@ const SHADE_STEP: u64 = 85;
 /// Writes the picture area as a file into a lent buffer, whose later bytes stay.
 pub fn export(ram: &[u8], buffer: &mut [u8]) -> Result<(), Refusal> {
     check_ram(ram)?;
-    let pixels = put_header(buffer)?;
+    let pixels = put_header(file_in(buffer)?);
     // White is 255, and no byte of the product overflows.
     each_octet(&ram[PLATE_AREA], pixels, |shades| !(shades * SHADE_STEP));
+    Ok(())
+}
+
+/// Writes the values before the matrix as a file like [`export`]'s, from the store and the
+/// registers taken by the capture held; all of them, however far it has run.
+pub fn export_readings(state: &State, store: &[u8], buffer: &mut [u8]) -> Result<(), Refusal> {
+    state.check()?;
+    check_frame(store)?;
+    let file = file_in(buffer)?;
+    if !state.held {
+        return Err(Refusal::NotHeld);
+    }
+    picture::values(put_header(file), store, &state.taken);
     Ok(())
 }
 
@@ -49,12 +62,16 @@ pub fn place(state: &State, ram: &mut [u8], file: &[u8]) -> Result<(), Refusal> 
     Ok(())
 }
 
+/// The part of a lent buffer that a file fills.
+fn file_in(buffer: &mut [u8]) -> Result<&mut [u8], Refusal> {
+    buffer.get_mut(..GREY_FILE_BYTES).ok_or(Refusal::Buffer)
+}
+
 /// Writes the header and returns the place of the pixels.
-fn put_header(buffer: &mut [u8]) -> Result<&mut [u8], Refusal> {
-    let file = buffer.get_mut(..GREY_FILE_BYTES).ok_or(Refusal::Buffer)?;
+fn put_header(file: &mut [u8]) -> &mut [u8] {
     let (header, pixels) = file.split_at_mut(HEADER.len());
     header.copy_from_slice(HEADER);
-    Ok(pixels)
+    pixels
 }
 
 /// The tiles of a file; none if its header, length or a grey is another.

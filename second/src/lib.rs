@@ -3,8 +3,9 @@
 //! [`State`] is the record the controller keeps; ROM, RAM, image and frame store are lent as slices.
 //! [`read`], [`write`], [`tick`], [`inspect`] and [`picture`] are the calls, [`Session`] is the bus script,
 //! and [`Frame::write_line`] writes its lines. [`export`] makes a grey image of the picture area,
-//! [`place`] puts one back and [`shades`] reads the area; [`import`] makes an image of a colour
-//! photograph. [`choose`] sets a contrast level by its number.
+//! [`place`] puts one back and [`shades`] reads the area; [`export_readings`] makes a grey image of
+//! the values before the dots, and [`import`] an image of a colour photograph. [`choose`] sets a
+//! contrast level by its number.
 
 #![forbid(unsafe_code)]
 
@@ -26,7 +27,7 @@ pub use bus::{inspect, read, tick, write, Element};
 pub use capture::Timing;
 pub use colour::import;
 pub use desk::choose;
-pub use grey::{export, place, shades, GREY_FILE_BYTES};
+pub use grey::{export, export_readings, place, shades, GREY_FILE_BYTES};
 pub use levels::CONTRAST_LEVELS;
 pub use lines::{Lines, LONGEST_LINE};
 pub use picture::{

@@ -49,21 +49,37 @@ pub(crate) fn draw(
         return;
     }
     let sensor = Sensor::new(frame, registers);
+    let mut strip = |rows, columns: Range<usize>| {
+        sensor.strip(rows, columns.clone(), |y, values| {
+            sensor.dither(plate, y, values, &columns)
+        })
+    };
     let (first, left) = (pixels.start / PICTURE_WIDTH, pixels.start % PICTURE_WIDTH);
     let (last, right) = (pixels.end / PICTURE_WIDTH, pixels.end % PICTURE_WIDTH);
     if first == last {
-        return sensor.strip(plate, first..first + 1, left..right);
+        return strip(first..first + 1, left..right);
     }
     let whole = first + usize::from(left > 0)..last;
     if left > 0 {
-        sensor.strip(plate, first..first + 1, left..PICTURE_WIDTH);
+        strip(first..first + 1, left..PICTURE_WIDTH);
     }
     if !whole.is_empty() {
-        sensor.strip(plate, whole, 0..PICTURE_WIDTH);
+        strip(whole, 0..PICTURE_WIDTH);
     }
     if right > 0 {
-        sensor.strip(plate, last..last + 1, 0..right);
+        strip(last..last + 1, 0..right);
     }
+}
+
+/// The values 0 to 255 of all picture pixels, before the matrix makes shades of them.
+pub(crate) fn values(pixels: &mut [u8], frame: &[u8], registers: &[u8; REGISTERS]) {
+    let sensor = Sensor::new(frame, registers);
+    sensor.strip(0..PICTURE_HEIGHT, 0..PICTURE_WIDTH, |y, values| {
+        let row = &mut pixels[y * PICTURE_WIDTH..][..PICTURE_WIDTH];
+        for (pixel, value) in row.iter_mut().zip(values) {
+            *pixel = (value + 128) as u8;
+        }
+    });
 }
 
 /// What step 4 looks at besides the pixel itself.
@@ -152,8 +168,8 @@ impl<'a> Sensor<'a> {
         }
     }
 
-    /// Draws the same columns of some picture rows, each sensor row lit once.
-    fn strip(&self, plate: &mut [u8], rows: Range<usize>, columns: Range<usize>) {
+    /// Hands on the same columns of some picture rows as signed values, each sensor row lit once.
+    fn strip(&self, rows: Range<usize>, columns: Range<usize>, mut each: impl FnMut(usize, &Row)) {
         let (above, below) = self.reach();
         let first = rows.start + FIRST_ROW;
         let mut lit = [[0; SENSOR_WIDTH + 2]; 3];
@@ -175,7 +191,7 @@ impl<'a> Sensor<'a> {
                 self.filter(&mut here, &lit, row, &columns);
             }
             self.filter_one_d(&mut here[columns.clone()], &next[columns.clone()]);
-            self.dither(plate, y, &here, &columns);
+            each(y, &here);
         }
     }
 

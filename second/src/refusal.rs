@@ -24,6 +24,8 @@ pub enum Refusal {
     Choice = 9,
     /// A capture is held, running or standing still.
     Held = 10,
+    /// No capture is held.
+    NotHeld = 11,
 }
 
 impl Refusal {

@@ -8,5 +8,6 @@ mod figures;
 mod grey;
 mod lines;
 mod random;
+mod readings;
 mod slow;
 mod written;

@@ -92,14 +92,19 @@ pub fn put(ram: &mut [u8], x: usize, y: usize, shade: u8) {
     }
 }
 
+/// The value 0 to 255 of a sensor pixel, before the matrix.
+pub fn value(frame: &[u8], taken: &[u8; 54], x: usize, row: usize) -> i32 {
+    let p = filtered(frame, taken, x as i32, row as i32);
+    let s = filtered(frame, taken, x as i32, row as i32 + 1);
+    step_5(mode(taken), taken[0], p, s) + 128
+}
+
 fn pixel(ram: &mut [u8], frame: &[u8], taken: &[u8; 54], x: usize, row: usize) {
     if !(8..120).contains(&row) {
         return;
     }
     let y = row - 8;
-    let p = filtered(frame, taken, x as i32, row as i32);
-    let s = filtered(frame, taken, x as i32, row as i32 + 1);
-    let value = step_5(mode(taken), taken[0], p, s) + 128;
+    let value = value(frame, taken, x, row);
     put(ram, x, y, shade(taken, x, y, value));
 }
 
