@@ -30,6 +30,7 @@
  *   8  a file is not one that can be read
  *   9  the light set of a choice is above 1, or its level above 15
  *  10  a capture is held, running or stopped
+ *  11  no capture is held
  *
  * The memory lent to one call must not overlap, and is not kept after the call.
  */
@@ -157,6 +158,14 @@ uint64_t gulxinett_place(const uint8_t *state, size_t state_len,
  * Refused as 3, then as 7. Value: 14336. */
 uint64_t gulxinett_shades(const uint8_t *ram, size_t ram_len,
                           uint8_t *out, size_t out_len);
+
+/* Writes the reading of each picture pixel, its value 0 to 255 before the matrix makes a shade of it, as a
+ * grey image like gulxinett_export's: from the frame store and the registers taken of the capture held, all
+ * 14,336 however far it has run. 14,351 bytes; bytes beyond stay. Refused as 1, 4, 7, then as 11
+ * when no capture is held. Value: 14351. */
+uint64_t gulxinett_readings(const uint8_t *state, size_t state_len,
+                            const uint8_t *store, size_t store_len,
+                            uint8_t *out, size_t out_len);
 
 /* Reads a colour photograph, a Netpbm file of kind P6, 128 by 128 pixels with largest value 255, into an
  * image of 16,384 bytes: (2R + 5G + B) / 8 of each pixel, rounded down. Refused as 4, then as 8;

@@ -135,6 +135,11 @@ class Session {
     this.cartridge.plate();
     this.cartridge.shades();
     this.cartridge.save();
+    try {
+      this.cartridge.readings();
+    } catch (error) {
+      if (!(error instanceof Refusal && error.number === 11)) throw error;
+    }
   }
 
   /** Stops what runs and reads the plate by calls. */

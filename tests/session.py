@@ -141,6 +141,11 @@ class Session:
         self.cartridge.plate()
         self.cartridge.shades()
         self.cartridge.save()
+        try:
+            self.cartridge.readings()
+        except Refusal as refusal:
+            if refusal.number != 11:
+                raise
 
     def read_out(self):
         """Stops what runs and reads the plate by calls."""

@@ -198,6 +198,8 @@ impl Session {
         self.cartridge.plate();
         self.cartridge.shades();
         self.cartridge.save();
+        let readings = self.cartridge.readings();
+        assert!(readings.is_ok() || readings == Err(Refusal::NotHeld));
     }
 
     /// Stops what runs and reads the plate by calls.

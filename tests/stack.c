@@ -50,6 +50,7 @@ static void everything(void)
         write_byte(0xA001, (uint8_t)(mode >> 1 << 5));
         write_byte(0xA004, (uint8_t)((mode & 1) << 7 | 0x10));
         write_byte(0xA000, 3);
+        gulxinett_readings(state, sizeof state, store, sizeof store, plate, sizeof plate);
         for (unsigned few = 0; few < 100; few++)
             tick(401);
         tick(UINT32_MAX);

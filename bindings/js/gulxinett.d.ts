@@ -31,7 +31,7 @@ export const SHADES_BYTES: 14336;
  * or the frame store is not 16,384 bytes, 5 the address is outside 0000-7FFF and A000-BFFF, 6 a script line or
  * image row is malformed, 7 the room lent for what is written is too short, 8 the file is not one
  * that can be read, 9 the light set of a choice is above 1 or its level above 15, 10 a capture is held, running
- * or stopped.
+ * or stopped, 11 no capture is held.
  */
 export class Refusal extends Error {
   constructor(number: number, sentence?: string);
@@ -129,6 +129,11 @@ export interface Cartridge {
   place(file: Bytes): void;
   /** The picture area as it stands, one shade a byte, 0 white to 3 black: 14,336 of them, row by row. */
   shades(): Uint8Array;
+  /**
+   * The reading of each pixel before the matrix makes a shade of it, from 0 to 255, as a grey image like `plate`'s: of the
+   * capture held, the whole of it however far it has run.
+   */
+  readings(): Uint8Array;
   /** Copies of state, RAM and frame store. */
   save(): Save;
   /** Gives the memory back to the next cartridge; closing twice is no error. */

@@ -50,6 +50,7 @@ const SENTENCES = {
   8: "the file is not one that can be read",
   9: "the light set is above 1 or the level above 15",
   10: "a capture is held, running or stopped",
+  11: "no capture is held, running or stopped",
 };
 
 /** A call that was refused, by its number; it changed nothing. */
@@ -351,6 +352,15 @@ function bound(exports) {
       return withCopies({ shades: new Uint8Array(SHADES_BYTES) }, ({ shades }) => {
         valueOf(exports.gulxinett_shades(...lent(ram, shades)));
         return shades.bytes.slice();
+      });
+    }
+
+    /** The reading of each pixel of the capture held, before the matrix, as a grey image: a Netpbm P5 file. */
+    readings() {
+      const { state, store } = this.#open();
+      return withCopies({ file: new Uint8Array(PLATE_BYTES) }, ({ file }) => {
+        valueOf(exports.gulxinett_readings(...lent(state, store, file)));
+        return file.bytes.slice();
       });
     }
 

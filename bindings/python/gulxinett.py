@@ -65,6 +65,7 @@ _SENTENCES = {
     8: "the file is not one that can be read",
     9: "the light set is above 1 or the level above 15",
     10: "a capture is held, running or stopped",
+    11: "no capture is held, running or stopped",
 }
 
 # What each function is given: lent memory is a place and a length, a bare place has a length that is settled.
@@ -86,6 +87,7 @@ _FUNCTIONS = {
     "export": _LENT * 2,
     "place": _LENT * 3,
     "shades": _LENT * 2,
+    "readings": _LENT * 3,
     "import_photo": _LENT * 2,
 }
 
@@ -441,6 +443,14 @@ class Cartridge:
         shades = (ctypes.c_ubyte * SHADES_BYTES)()
         _call("shades", *_lent(self._ram, shades))
         return bytes(shades)
+
+    def readings(self):
+        """The reading of each pixel before the matrix makes a shade of it, from 0 to 255, as a grey image like `plate`'s:
+        of the capture held, the whole of it however far it has run."""
+        self._open()
+        file = (ctypes.c_ubyte * PLATE_BYTES)()
+        _call("readings", *_lent(self._state, self._store, file))
+        return bytes(file)
 
     def save(self):
         """Copies of state, RAM and frame store."""

@@ -243,6 +243,40 @@ class Calls(unittest.TestCase):
             self.assertEqual(len(shades), SHADES_BYTES)
             self.assertEqual(bytes(255 - 85 * shade for shade in shades), cartridge.plate()[15:])
 
+    def test_readings(self):
+        def dotted(readings):
+            """The file that the matrix makes of readings, worked out here."""
+            def grey(place, value):
+                element = 6 + 3 * (4 * (place // 128 % 4) + place % 4)
+                return 85 * sum(value >= least for least in TAKEN[element : element + 3])
+
+            return readings[:15] + bytes(grey(place, value) for place, value in enumerate(readings[15:]))
+
+        cartridge = begun(1)
+        cartridge.tick(20_000)
+        cartridge.record()
+        before = whole(cartridge)
+        readings = cartridge.readings()
+        self.assertEqual((whole(cartridge), cartridge.recording()), (before, b""))
+        cartridge.write(0xA000, 2)
+        cartridge.write(0xA006, 0xFF)
+        cartridge.lend(frame(2))
+        self.assertEqual(cartridge.readings(), readings, "stopped, and touched")
+        cartridge.write(0xA000, 3)
+        cartridge.tick(0xFFFF_FFFF)
+        self.assertEqual(cartridge.plate(), dotted(readings))
+        with self.assertRaisesRegex(Refusal, "no capture is held") as refused:
+            cartridge.readings()
+        self.assertEqual(refused.exception.number, 11)
+        # at exposure 0100h the brightest light is read as 207, and inverted as 48
+        cartridge.reset()
+        cartridge.lend(b"\xff" * FRAME_BYTES)
+        for inverted, value in ((0, 207), (8, 48)):
+            for address, byte in ((0x4000, 0x10), (0xA002, 1), (0xA004, inverted), (0xA000, 3)):
+                cartridge.write(address, byte)
+            self.assertEqual(cartridge.readings()[15:], bytes([value]) * SHADES_BYTES)
+            cartridge.tick(0xFFFF_FFFF)
+
     def test_bytes_of_any_kind(self):
         kinds = bytes, bytearray, memoryview, lambda value: array.array("B", value)
         for kind in kinds:
@@ -415,8 +449,8 @@ class BadInput(unittest.TestCase):
         cartridge.close()
         uses = {
             "reset": (), "read": (0,), "write": (0xA000, 0), "tick": (1,), "inspect": (), "lend": (frame(1),), "lend_photo": (b"",),
-            "choose": {"light": 0, "level": 0}, "picture": (), "area": (), "plate": (), "place": (b"",), "shades": (), "save": (),
-            "record": (), "recording": (),
+            "choose": {"light": 0, "level": 0}, "picture": (), "area": (), "plate": (), "place": (b"",), "shades": (), "readings": (),
+            "save": (), "record": (), "recording": (),
         }
         for name, words in uses.items():
             with self.assertRaisesRegex(ValueError, "the cartridge is closed"):

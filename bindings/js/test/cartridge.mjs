@@ -199,6 +199,42 @@ function placings() {
   say("plates placed, their 3,588 writes recorded; 14 turned away");
 }
 
+/** The file that the matrix makes of readings, worked out here. */
+const dotted = (readings) =>
+  readings.map((value, at) => {
+    const [x, y] = [(at - 15) % 128, (at - 15) >> 7];
+    const element = 6 + 3 * (4 * (y % 4) + (x % 4));
+    return at < 15 ? value : 85 * registers.subarray(element, element + 3).filter((least) => value >= least).length;
+  });
+
+/** Readings: of captures that run and stand still, whatever is touched meanwhile, and of none. */
+function readings() {
+  const cartridge = begin(new Cartridge(), 1);
+  cartridge.tick(20_000);
+  cartridge.record();
+  const before = whole(cartridge);
+  const read = cartridge.readings();
+  assert.deepEqual([whole(cartridge), cartridge.recording().length], [before, 0]);
+  cartridge.write(0xa000, 2);
+  cartridge.write(0xa006, 0xff);
+  cartridge.lend(frame(2));
+  assert.deepEqual(cartridge.readings(), read);
+  cartridge.write(0xa000, 3);
+  cartridge.tick(0xffff_ffff);
+  assert.deepEqual(cartridge.plate(), dotted(read));
+  refused(11, () => cartridge.readings());
+  // at exposure 0100h the brightest light is read as 207, and inverted as 48
+  cartridge.reset();
+  cartridge.lend(new Uint8Array(FRAME_BYTES).fill(0xff));
+  for (const [inverted, value] of [[0, 207], [8, 48]]) {
+    for (const [address, byte] of [[0x4000, 0x10], [0xa002, 1], [0xa004, inverted], [0xa000, 3]]) cartridge.write(address, byte);
+    assert.ok(cartridge.readings().subarray(15).every((reading) => reading === value));
+    cartridge.tick(0xffff_ffff);
+  }
+  cartridge.close();
+  say("readings before the dots: of captures that run and stand still; none once they have ended");
+}
+
 /** A colour photograph under a header, and its image, worked out here. */
 function photograph(header, number) {
   const pixels = Uint8Array.from({ length: 3 * FRAME_BYTES }, (_, i) => (i * (5 + 2 * number) + (i >> 8)) & 255);
@@ -549,7 +585,7 @@ function closed() {
   cartridge.close();
   const uses = {
     reset: [], read: [0], write: [0xa000, 0], tick: [1], inspect: [], choose: [{ light: 0, level: 0 }], lend: [frame(1)], lendPhoto: [frame(1)], picture: [], area: [], plate: [],
-    place: [frame(1)], shades: [], save: [], record: [], recording: [],
+    place: [frame(1)], shades: [], readings: [], save: [], record: [], recording: [],
   };
   for (const [name, words] of Object.entries(uses)) throws(Error, "the cartridge is closed", () => cartridge[name](...words));
   throws(Error, "the cartridge is closed", () => cartridge.picture(frame(1), registers));
@@ -566,6 +602,7 @@ await loading();
 calls();
 plates();
 placings();
+readings();
 photographs();
 choices();
 recorder();

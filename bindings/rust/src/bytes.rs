@@ -18,7 +18,7 @@ impl Answer {
     pub fn result(self) -> Result<u32, Refusal> {
         match (self.0 >> 32) as u32 {
             0 => Ok(self.0 as u32),
-            number => Err(Refusal::from_number(number).expect("a refusal is 1 to 10")),
+            number => Err(Refusal::from_number(number).expect("a refusal is 1 to 11")),
         }
     }
 }
@@ -195,6 +195,23 @@ pub fn place(state: &[u8], ram: &mut [u8], file: &[u8]) -> Answer {
 pub fn shades(ram: &[u8], out: &mut [u8]) -> Answer {
     // SAFETY: each pointer and length are those of one slice, and the mutable one is apart.
     Answer(unsafe { ffi::gulxinett_shades(ram.as_ptr(), ram.len(), out.as_mut_ptr(), out.len()) })
+}
+
+/// Writes the value of each picture pixel before the matrix, from the store and the registers taken of the
+/// capture held, as a Netpbm P5 file; the value is its length, 14,351. Bytes of `out` beyond it stay, a
+/// shorter `out` is refused as [`Refusal::Room`], and where no capture is held as [`Refusal::NotHeld`].
+pub fn readings(state: &[u8], store: &[u8], out: &mut [u8]) -> Answer {
+    // SAFETY: each pointer and length are those of one slice, and the mutable one is apart.
+    Answer(unsafe {
+        ffi::gulxinett_readings(
+            state.as_ptr(),
+            state.len(),
+            store.as_ptr(),
+            store.len(),
+            out.as_mut_ptr(),
+            out.len(),
+        )
+    })
 }
 
 /// Reads a colour photograph, a Netpbm P6 file of 128 by 128 pixels, into an image; the value is 0. A file

@@ -236,6 +236,14 @@ impl Cartridge {
         shades
     }
 
+    /// The reading of each pixel before the matrix makes a shade of it, from 0 to 255, as a grey image like
+    /// [`Cartridge::plate`]'s: of the capture held, the whole of it however far it has run.
+    pub fn readings(&self) -> Result<Vec<u8>, Refusal> {
+        let mut file = vec![0; PLATE_BYTES];
+        bytes::readings(&self.state.encode(), &self.store, &mut file).result()?;
+        Ok(file)
+    }
+
     /// The state record as it stands.
     pub fn state(&self) -> &State {
         &self.state

@@ -83,6 +83,15 @@ extern "C" {
 
     pub fn gulxinett_shades(ram: *const u8, ram_len: usize, out: *mut u8, out_len: usize) -> u64;
 
+    pub fn gulxinett_readings(
+        state: *const u8,
+        state_len: usize,
+        store: *const u8,
+        store_len: usize,
+        out: *mut u8,
+        out_len: usize,
+    ) -> u64;
+
     pub fn gulxinett_import_photo(
         file: *const u8,
         file_len: usize,

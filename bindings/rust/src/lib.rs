@@ -70,10 +70,12 @@ pub enum Refusal {
     Choice,
     /// A capture is held, running or stopped.
     Held,
+    /// No capture is held.
+    NotHeld,
 }
 
 impl Refusal {
-    /// The interface's number, 1 to 10.
+    /// The interface's number, 1 to 11.
     pub const fn number(self) -> u8 {
         match self {
             Refusal::State | Refusal::Layout(_) => 1,
@@ -86,6 +88,7 @@ impl Refusal {
             Refusal::File => 8,
             Refusal::Choice => 9,
             Refusal::Held => 10,
+            Refusal::NotHeld => 11,
         }
     }
 
@@ -97,7 +100,7 @@ impl Refusal {
         }
     }
 
-    /// The refusal of a number; none outside 1 to 10.
+    /// The refusal of a number; none outside 1 to 11.
     pub const fn from_number(number: u32) -> Option<Refusal> {
         Some(match number {
             1 => Refusal::State,
@@ -110,6 +113,7 @@ impl Refusal {
             8 => Refusal::File,
             9 => Refusal::Choice,
             10 => Refusal::Held,
+            11 => Refusal::NotHeld,
             _ => return None,
         })
     }
@@ -134,6 +138,7 @@ impl std::fmt::Display for Refusal {
             Refusal::File => "the file is not one that can be read",
             Refusal::Choice => "the light set is above 1 or the level above 15",
             Refusal::Held => "a capture is held, running or stopped",
+            Refusal::NotHeld => "no capture is held, running or stopped",
         })
     }
 }

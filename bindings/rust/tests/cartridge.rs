@@ -218,6 +218,70 @@ fn shades_of_the_area() {
     assert_eq!((room[SHADES_BYTES - 1], room[SHADES_BYTES]), (0, 0xA5));
 }
 
+/// The file that a matrix makes of readings, worked out here.
+fn dotted(readings: &[u8], registers: &[u8; REGISTERS]) -> Vec<u8> {
+    let grey = |(place, value): (usize, &u8)| {
+        let element = 6 + 3 * (4 * (place / 128 % 4) + place % 4);
+        let above = registers[element..element + 3].iter();
+        85 * above.filter(|&least| value >= least).count() as u8
+    };
+    let header = readings[..15].iter().copied();
+    header
+        .chain(readings[15..].iter().enumerate().map(grey))
+        .collect()
+}
+
+#[test]
+fn readings_before_the_dots() -> Result<(), Refusal> {
+    let mut cartridge = half_way();
+    cartridge.record();
+    let before = cartridge.clone();
+    let readings = cartridge.readings()?;
+    assert!(cartridge == before);
+    let fresh = picture(&frame(), &registers())?;
+    assert!(dotted(&readings, &registers()) == file_of(&fresh));
+    cartridge.write(0xA000, 2)?;
+    cartridge.write(0xA006, 0xFF)?;
+    cartridge.lend(&[9; FRAME_BYTES])?;
+    assert!(cartridge.readings()? == readings, "stopped, and touched");
+    cartridge.write(0xA000, 3)?;
+    cartridge.tick(u32::MAX)?;
+    assert_eq!(cartridge.readings(), Err(Refusal::NotHeld));
+    assert!(cartridge.plate() == dotted(&readings, &registers()));
+    // at exposure 0100h the brightest light is read as 207, and inverted as 48
+    cartridge.reset();
+    cartridge.lend(&[0xFF; FRAME_BYTES])?;
+    for (inverted, value) in [(0, 207), (8, 48)] {
+        for (address, byte) in [(0x4000, 0x10), (0xA002, 1), (0xA004, inverted), (0xA000, 3)] {
+            cartridge.write(address, byte)?;
+        }
+        assert!(cartridge.readings()?[15..] == [value; SHADES_BYTES]);
+        cartridge.tick(u32::MAX)?;
+    }
+    Ok(())
+}
+
+#[test]
+fn readings_that_are_refused() {
+    let read =
+        |state: &[u8], store: &[u8], out: &mut [u8]| bytes::readings(state, store, out).result();
+    let (held, free) = (half_way().save(), Cartridge::default().save());
+    let mut room = [0xA5; PLATE_BYTES + 1];
+    let short = &mut room[2..];
+    assert_eq!(read(&[], &[], short), Err(Refusal::State));
+    assert_eq!(read(&free.state, &[], short), Err(Refusal::Frame));
+    assert_eq!(read(&free.state, &free.store, short), Err(Refusal::Room));
+    assert_eq!(read(&held.state, &held.store, short), Err(Refusal::Room));
+    assert_eq!(
+        read(&free.state, &free.store, &mut room),
+        Err(Refusal::NotHeld)
+    );
+    assert_eq!(room, [0xA5; PLATE_BYTES + 1]);
+    let written = read(&held.state, &held.store, &mut room);
+    assert_eq!(written, Ok(PLATE_BYTES as u32));
+    assert_eq!(room[PLATE_BYTES], 0xA5);
+}
+
 fn export(ram: &[u8], out: &mut [u8]) -> Result<u32, Refusal> {
     bytes::export(ram, out).result()
 }
