@@ -156,6 +156,10 @@ function kinds(steps, memories, exports) {
       makeRoom();
       return ["shades", () => exports.gulxinett_shades(...lent("ram", "out"))];
     },
+    () => {
+      makeRoom();
+      return ["readings", () => exports.gulxinett_readings(...lent("state", "store", "out"))];
+    },
   ];
 }
 

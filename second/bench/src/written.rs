@@ -1,9 +1,9 @@
-//! What is written into lent memory: frames as script lines, a plate as a file and back, its shades, a
-//! photograph as an image.
+//! What is written into lent memory: frames as script lines, a plate as a file and back, its shades, the
+//! readings before them, a photograph as an image.
 
 use crate::timing::{self, sample, Effort, Spread};
 use gulxinett::bytes;
-use second::{Frame, State, FRAME_BYTES, GREY_FILE_BYTES, PIXELS, RECORD_BYTES};
+use second::{Frame, State, FRAME_BYTES, GREY_FILE_BYTES, PIXELS, RECORD_BYTES, REGISTERS};
 use std::hint::black_box;
 
 const LINE: usize = 261;
@@ -16,6 +16,7 @@ type Writer = fn(&mut Lent, u32);
 struct Lent {
     row: [u8; ROW],
     state: [u8; RECORD_BYTES],
+    held: [u8; RECORD_BYTES],
     ram: Vec<u8>,
     room: [u8; GREY_FILE_BYTES],
     plate: Vec<u8>,
@@ -23,15 +24,21 @@ struct Lent {
     image: Vec<u8>,
 }
 
-/// Times both on a row of the image, a write, a plate out and in, its shades and a photograph; returns
-/// what each writes in a second.
-pub fn measure(effort: Effort) -> [String; 6] {
+/// Times both on a row of the image, a write, a plate out and in, its shades, readings and a photograph;
+/// returns what each writes in a second.
+pub fn measure(effort: Effort) -> [String; 7] {
     [
         compare("row lines", effort, proved_row, second_row),
         compare("write lines", effort, proved_write, second_write),
         compare("plates as files", effort, proved_file, second_file),
         compare("plates placed", effort, proved_place, second_place),
         compare("plates as shades", effort, proved_shades, second_shades),
+        compare(
+            "readings as files",
+            effort,
+            proved_readings,
+            second_readings,
+        ),
         compare("photographs read", effort, proved_photo, second_photo),
     ]
 }
@@ -40,11 +47,14 @@ fn compare(what: &str, effort: Effort, proved: Writer, second: Writer) -> String
     let mut lent = Lent {
         row: std::array::from_fn(|place| place as u8 * 37),
         state: State::RESET.to_bytes(),
+        held: held().to_bytes(),
         ram: (0..8_192).map(|place| (place * place / 7) as u8).collect(),
         room: [0; GREY_FILE_BYTES],
         plate: plate(),
         photo: photograph(),
-        image: vec![0; FRAME_BYTES],
+        image: (0..FRAME_BYTES)
+            .map(|place| (place * place / 13) as u8)
+            .collect(),
     };
     let mut times = [const { Vec::new() }; 2];
     for round in 0..effort.rounds + 1 {
@@ -137,6 +147,32 @@ fn second_shades(lent: &mut Lent, number: u32) {
     lent.ram[0x100] = number as u8;
     let read = second::shades(&lent.ram, &mut lent.room);
     assert_eq!(read, Ok(()));
+}
+
+/// A capture held in mode E at 75 per cent and exposure 0100h, which reads its image.
+fn held() -> State {
+    let mut taken = [0; REGISTERS];
+    (taken[0], taken[1], taken[2], taken[4]) = (3, 0xE0, 1, 0x10);
+    State {
+        held: true,
+        registers: taken,
+        taken,
+        ..State::RESET
+    }
+}
+
+fn proved_readings(lent: &mut Lent, number: u32) {
+    lent.image[0x1000] = number as u8;
+    let answer = bytes::readings(&lent.held, &lent.image, &mut lent.room);
+    assert_eq!(answer.0, GREY_FILE_BYTES as u64);
+}
+
+/// The state is read from its bytes, as the archive reads it.
+fn second_readings(lent: &mut Lent, number: u32) {
+    lent.image[0x1000] = number as u8;
+    let state = State::from_bytes(&lent.held).expect("a record is lent");
+    let written = second::export_readings(&state, &lent.image, &mut lent.room);
+    assert_eq!(written, Ok(()));
 }
 
 /// A colour photograph, with a comment as scanners write them.

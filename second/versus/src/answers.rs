@@ -5,7 +5,7 @@
 //! a length that is in use. Then come steps, numbers little-endian:
 //!
 //! - [`LENT`], which memory, its length as 4 bytes, a patch: it is lent so from here on;
-//! - the kind of a call 0 to 15 and its words, the answer as 8 bytes, how many memories it changed,
+//! - the kind of a call 0 to 16 and its words, the answer as 8 bytes, how many memories it changed,
 //!   and of each which one and a patch. The memory of what a call gives out, a picture, a line or
 //!   a file, is all [`UNDRAWN`] before;
 //! - [`END`] and how many calls there were, as 8 bytes.
@@ -86,7 +86,10 @@ impl Answers {
         self.steps.push(0);
         let given_out = match call {
             Call::Picture { .. } => Some(PICTURE),
-            Call::Record { .. } | Call::Export { .. } | Call::Shades { .. } => Some(OUT),
+            Call::Record { .. }
+            | Call::Export { .. }
+            | Call::Shades { .. }
+            | Call::Readings { .. } => Some(OUT),
             _ => None,
         };
         let bytes = memories(after);
@@ -165,6 +168,10 @@ impl Answers {
             Call::Place => self.steps.push(14),
             Call::Shades { room } => {
                 self.steps.push(15);
+                self.steps.extend((*room as u16).to_le_bytes());
+            }
+            Call::Readings { room } => {
+                self.steps.push(16);
                 self.steps.extend((*room as u16).to_le_bytes());
             }
             Call::Image { .. }

@@ -47,6 +47,10 @@ pub enum Call {
     Shades {
         room: usize,
     },
+    /// The readings before the dots as a file, into so many bytes.
+    Readings {
+        room: usize,
+    },
     /// A light set and a level, without dithering unless plain is 0, and an exposure, none above FFFF.
     Choose {
         light: u8,
@@ -117,6 +121,7 @@ impl fmt::Display for Call {
             Call::Export { room } => write!(f, "export in {room} bytes"),
             Call::Place => write!(f, "placing of the file lent"),
             Call::Shades { room } => write!(f, "shades in {room} bytes"),
+            Call::Readings { room } => write!(f, "readings in {room} bytes"),
             Call::Choose {
                 light,
                 level,

@@ -28,6 +28,8 @@ pub struct History<'a> {
     pub halves: u64,
     /// Files placed, and those turned away while a capture was held.
     pub placed: [u64; 2],
+    /// Files made of the readings of a capture.
+    pub readings: u64,
     /// A start was seen, so that its end makes a whole capture.
     started: bool,
 }
@@ -57,6 +59,7 @@ impl<'a> History<'a> {
             captures: 0,
             halves: 0,
             placed: [0; 2],
+            readings: 0,
             started: false,
         }
     }
@@ -80,6 +83,9 @@ impl<'a> History<'a> {
                 let counted = [0, refused(Refusal::Held.number().into())];
                 let counts = counted.iter().zip(&mut self.placed);
                 counts.for_each(|(&due, count)| *count += u64::from(answer == due));
+            }
+            if let Call::Readings { .. } = call {
+                self.readings += u64::from(answer >> 32 == 0);
             }
             self.count_captures(&call, before);
         }
@@ -158,7 +164,12 @@ impl<'a> History<'a> {
                         room: room_for(PIXELS, self.random),
                     }
                 }
-                89..=480 => {
+                89..=93 => {
+                    return Call::Readings {
+                        room: room_for(GREY_FILE_BYTES, self.random),
+                    }
+                }
+                94..=480 => {
                     return Call::Read {
                         address: self.address(),
                     }

@@ -121,6 +121,9 @@ fn compare(calls: u64, seed: u64, answers: Option<Answers>) -> Option<Option<Ans
         tally.compared - before
     );
     let before = tally.compared;
+    sweep::readings(&mut tally, &mut random);
+    println!("readings: {} calls compared", tally.compared - before);
+    let before = tally.compared;
     sweep::choices(&mut tally);
     println!("choices: {} calls compared", tally.compared - before);
     let before = tally.compared;
@@ -135,7 +138,7 @@ fn compare(calls: u64, seed: u64, answers: Option<Answers>) -> Option<Option<Ans
         .take(SHOWN)
         .for_each(|difference| println!("DIFFERENCE: {difference}"));
     let mut differences = tally.differences.len();
-    let (mut compared, mut captures, mut halves, mut placed) = (0, 0, 0, [0; 2]);
+    let (mut compared, mut captures, mut halves, mut placed, mut readings) = (0, 0, 0, [0; 2], 0);
     while compared < calls && differences < SHOWN {
         let mut history = History::new(&mut random);
         if let Err(difference) = history.play(HISTORY.min(calls - compared), tally.answers.as_mut())
@@ -147,11 +150,12 @@ fn compare(calls: u64, seed: u64, answers: Option<Answers>) -> Option<Option<Ans
         captures += history.captures;
         halves += history.halves;
         placed = [0, 1].map(|what| placed[what] + history.placed[what]);
+        readings += history.readings;
     }
     println!(
         "histories: {compared} calls compared, {captures} whole captures, \
          {halves} files made while a capture was running, {} plates placed and {} turned away \
-         while a capture was held",
+         while a capture was held, {readings} files made of readings",
         placed[0], placed[1]
     );
     println!(

@@ -107,6 +107,10 @@ impl Side {
             self.make_room(*room);
             return bytes::shades(&self.ram, &mut self.out).0;
         }
+        if let Call::Readings { room } = call {
+            self.make_room(*room);
+            return bytes::readings(&self.state, &self.store, &mut self.out).0;
+        }
         let Side {
             state,
             rom,
@@ -161,6 +165,10 @@ impl Side {
         if let Call::Shades { room } = call {
             self.make_room(*room);
             return self.shades_second();
+        }
+        if let Call::Readings { room } = call {
+            self.make_room(*room);
+            return self.readings_second();
         }
         let Some(mut state) = State::from_bytes(&self.state) else {
             return refused(1);
@@ -219,6 +227,17 @@ impl Side {
         read.map_or_else(
             |refusal| refused(refusal.number().into()),
             |()| second::PIXELS as u64,
+        )
+    }
+
+    fn readings_second(&mut self) -> u64 {
+        let Some(state) = State::from_bytes(&self.state) else {
+            return refused(1);
+        };
+        let written = second::export_readings(&state, &self.store, &mut self.out);
+        written.map_or_else(
+            |refusal| refused(refusal.number().into()),
+            |()| second::GREY_FILE_BYTES as u64,
         )
     }
 
@@ -353,6 +372,7 @@ impl Pair {
             Call::Import => &[("image", &a.image, &b.image), ("file", &a.file, &b.file)],
             Call::Place => &[("RAM", &a.ram, &b.ram), ("file", &a.file, &b.file)],
             Call::Shades { .. } => &[("RAM", &a.ram, &b.ram), ("shades", &a.out, &b.out)],
+            Call::Readings { .. } => &[("store", &a.store, &b.store), ("file", &a.out, &b.out)],
             _ => &[],
         };
         let state = parted("state", &a.state, &b.state)

@@ -5,7 +5,7 @@ use crate::call::{hex, Call, Lent};
 use crate::lines;
 use crate::random::Random;
 use crate::sides::{paint, parted, refused, Beginning, Pair, Side};
-use second::{Frame, State};
+use second::{Frame, State, Timing};
 
 /// Something to lend or give, and whether it is to be refused.
 pub type Choice<T> = (T, bool);
@@ -440,6 +440,49 @@ pub fn exports(tally: &mut Tally, random: &mut Random) {
     }
 }
 
+/// The readings of captures in every mode, ratio, inversion and 1-D filter, held anywhere, running and
+/// not; and every combination of bad arguments.
+pub fn readings(tally: &mut Tally, random: &mut Random) {
+    let mut side = Pair::new(&Beginning {
+        rom_banks: 0,
+        ram_banks: 0,
+        seed: 9,
+    })
+    .archive;
+    side.image = Vec::new();
+    for setting in 0..1024 {
+        paint(&mut side.store, (setting % 5) as u8, random.next());
+        let taken = setting_of(setting, random);
+        let mut registers = pleasant(random);
+        registers[0] &= 7;
+        let state = State {
+            held: true,
+            elapsed: random.below(Timing::of(&taken).total()),
+            registers,
+            taken,
+            ..State::RESET
+        };
+        side.state = state.to_bytes().to_vec();
+        tally.compare(&side, &Call::Readings { room: 14_351 }, None);
+    }
+    for (state, no_state) in records() {
+        let held = State::from_bytes(&state).is_some_and(|state| state.held);
+        side.state = state;
+        for (store, no_store) in FRAMES {
+            side.store = lend(store);
+            for room in [0, 1, 15, 14_336, 14_350, 14_351, 14_352, 16_384] {
+                let due = lowest(&[
+                    (1, no_state),
+                    (4, no_store),
+                    (7, room < 14_351),
+                    (11, !held),
+                ]);
+                tally.compare(&side, &Call::Readings { room }, due);
+            }
+        }
+    }
+}
+
 /// Room for so many bytes, more often than not enough.
 pub fn room_for(bytes: usize, random: &mut Random) -> usize {
     match random.below(4) {
@@ -460,11 +503,7 @@ pub fn pictures(tally: &mut Tally, random: &mut Random) {
     .archive;
     for setting in 0..1024 {
         paint(&mut side.image, (setting % 5) as u8, random.next());
-        let mut registers = pleasant(random);
-        registers[0] = (setting >> 8 << 1 | 1) as u8;
-        registers[1] = registers[1] & 0x1F | (setting << 4 & 0xE0) as u8;
-        registers[4] = registers[4] & 7 | (setting << 7) as u8 | (setting >> 1 & 0x78) as u8;
-        draw(tally, &side, registers);
+        draw(tally, &side, setting_of(setting, random));
     }
     for place in 0..6 {
         for value in 0..=255 {
@@ -486,6 +525,15 @@ fn draw(tally: &mut Tally, side: &Side, registers: [u8; 54]) {
         },
         None,
     );
+}
+
+/// Such registers under one of 1,024 settings: mode, inversion, ratio and 1-D filter.
+fn setting_of(setting: u32, random: &mut Random) -> [u8; 54] {
+    let mut registers = pleasant(random);
+    registers[0] = (setting >> 8 << 1 | 1) as u8;
+    registers[1] = registers[1] & 0x1F | (setting << 4 & 0xE0) as u8;
+    registers[4] = registers[4] & 7 | (setting << 7) as u8 | (setting >> 1 & 0x78) as u8;
+    registers
 }
 
 /// Random registers at an exposure that leaves pixels apart.
