@@ -23,6 +23,8 @@ for (let mode = 0; mode < 16; mode++) {
   cartridge.picture();
   cartridge.record();
   cartridge.export();
+  cartridge.place();
+  cartridge.shades();
   cartridge.importPhoto();
 }
 const used = stack - lowest();

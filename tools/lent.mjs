@@ -46,6 +46,9 @@ export function lend(path) {
     inspect: () => value(call.gulxinett_inspect(...lent("state"))),
     picture: () => value(call.gulxinett_picture(...lent("image"), at.registers, at.picture)),
     export: () => value(call.gulxinett_export(...lent("ram", "plate"))),
+    place: () => value(call.gulxinett_place(...lent("state", "ram", "plate"))),
+    /** Takes the plate's room. */
+    shades: () => value(call.gulxinett_shades(...lent("ram", "plate"))),
     importPhoto: () => value(call.gulxinett_import_photo(...lent("photograph", "image"))),
     /** A line of each kind. */
     record() {
