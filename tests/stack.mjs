@@ -16,6 +16,7 @@ function lowest() {
 for (let mode = 0; mode < 16; mode++) {
   cartridge.prepare(mode);
   cartridge.start();
+  cartridge.readings();
   for (let few = 0; few < 100; few++) cartridge.tick(401);
   cartridge.tick(0xffffffff);
   cartridge.inspect();

@@ -49,6 +49,8 @@ export function lend(path) {
     place: () => value(call.gulxinett_place(...lent("state", "ram", "plate"))),
     /** Takes the plate's room. */
     shades: () => value(call.gulxinett_shades(...lent("ram", "plate"))),
+    /** Takes the plate's room too. */
+    readings: () => value(call.gulxinett_readings(...lent("state", "store", "plate"))),
     importPhoto: () => value(call.gulxinett_import_photo(...lent("photograph", "image"))),
     /** A line of each kind. */
     record() {
