@@ -30,11 +30,11 @@ use Rattle.history.proofs.Reachable.{sound, reachable}
 pub record Quiet (t : Track) (k : Call) : Type 0 where
   pub no-start : starts t k ≡ false
   pub no-end : ends t k ≡ false
-  pub no-landing : lands t k ≡ false
+  pub no-landing : (p : ℕ) → lands t k p ≡ false
 
 pub choice-quiet : (t : Track) (light level : ℕ) (plain : Bool) (exposure : Exposure) → Quiet t (choose light level plain exposure)
 unfolding starts ends lands
-choice-quiet t light level plain exposure = record { no-start = refl; no-end = refl; no-landing = refl }
+choice-quiet t light level plain exposure = record { no-start = refl; no-end = refl; no-landing = λ p. refl }
 
 -- a world with nothing changed but the registers
 abbrev withAll : World → List ℕ → World

@@ -6,8 +6,9 @@ use Prim.Native.Nat.{ℕ, _+_, _-_, _%_, _<_, _≤_, min}
 use native.Mathlib.Nat.{add-zero}
 use native.Mathlib.Omega.{arith}
 use lib.Dec.{eqb, ltb}
-use lib.ListN.{length, set, length-set}
-use borrow.Author.Tests.{ne-eqb, eq-eqb}
+use lib.ListN.{length, getD, set, length-set}
+use lib.Seq.{getD-set-same, getD-set-other}
+use borrow.Author.Tests.{ne-eqb, eq-eqb, eqb-true, eqb-false}
 use Rattle.laws.specs.Pick.{pick}
 use Rattle.laws.proofs.Order.{split}
 use Rattle.sensor.specs.Taken.{exposureOf}
@@ -23,7 +24,7 @@ use Rattle.controller.specs.Outcome.{Outcome}
 use Rattle.controller.specs.Table.{lowest}
 use Rattle.controller.specs.Calls.{readRows, readMeans, writeRows, writeMeans, tickRows, tickMeans}
 use Rattle.controller.proofs.Refusals.{write-refuses, tick-refuses, judged-ind, judged-pick, write-none, tick-lent}
-use Rattle.timing.proofs.Lent.{frame-lent}
+use Rattle.timing.proofs.Lent.{frame-lent, ram-inside}
 use Rattle.laws.proofs.Bools.{both-left, both-right}
 use Rattle.controller.proofs.Exists.{before-total}
 use Rattle.controller.proofs.Ticks.{idle, going, over}
@@ -35,7 +36,7 @@ use Rattle.desk.specs.declared.choice.Exposure.{Exposure}
 use Rattle.desk.specs.Choice.{beyond, registersChosen, withRegisters, chooseRows, chooseMeans}
 use Rattle.desk.proofs.Choices.{choose-none, choose-refuses}
 use Rattle.history.specs.History.{Call, reset, read, write, tick, inspect, choose, World, fresh, leftBy, leaves, answers, refusalIn, countIn, after}
-use Rattle.history.specs.Track.{lands, landsAt, byteIn, Track, atReset, writeAccepted, tickAccepted, choiceAccepted, cyclesOf, runsIn, ends, enabling, selecting, storing, beginning, running, ending, controlled, registered, written, next, follow, told, seen, Told}
+use Rattle.history.specs.Track.{toRam, placeOf, lands, byteIn, Track, atReset, writeAccepted, tickAccepted, choiceAccepted, cyclesOf, runsIn, ends, enabling, selecting, storing, beginning, running, ending, controlled, registered, written, next, follow, told, seen, Told}
 use Rattle.history.proofs.Picks.{paired, by-test, not-both}
 use Rattle.history.proofs.Reachable.{Sound, reset-sound, call-sound}
 
@@ -397,23 +398,49 @@ module _ (w : World) (im : List ℕ) (own : w .state .held ≡ true → w .store
     landed true false false false free x y ram store′ r u e = refl
 
     write-ram : (image : List ℕ) (a v : ℕ)
-        → leaves w (write image a v) .ram ≡ pick (lands (seen w im) (write image a v)) (set (w .ram) (landsAt (seen w im) (write image a v)) v) (w .ram)
-    unfolding lands landsAt writeAccepted byteWritten ramWritten
+        → leaves w (write image a v) .ram ≡ pick (toRam (seen w im) image a) (set (w .ram) (placeOf (seen w im) a) v) (w .ram)
+    unfolding toRam placeOf writeAccepted byteWritten ramWritten
     write-ram image a v =
         ap (λ (u : World). u .ram) (write-leaves w image a v exists)
         ∙ landed (ramAllowed (length (w .ram)) && (frames image && onCartridge a)) (ltb a 0x8000) (registersOn c) (started (c .registers)) (c .enabled) _ _ (w .ram) _ _ w refl
 
-    -- a write lands, or the tick's pixels are put
-    call-ram : (k : Call) → leaves w k .ram ≡ pick (lands (seen w im) k) (set (w .ram) (landsAt (seen w im) k) (byteIn k)) (put k)
+    -- what goes to the RAM, goes inside it, whatever its size
+    ram-at : (image : List ℕ) (a : ℕ) → toRam (seen w im) image a ≡ true → placeOf (seen w im) a < length (w .ram)
+    unfolding toRam placeOf writeAccepted
+    ram-at image a h = ram-inside (length (w .ram)) (c .select % 16) a (both-left (ramAllowed (length (w .ram))) _ (both-left _ _ h))
+
+    write-byte : (image : List ℕ) (a v p : ℕ) → getD (leaves w (write image a v) .ram) p 0 ≡ pick (toRam (seen w im) image a && eqb p (placeOf (seen w im) a)) v (getD (w .ram) p 0)
+    write-byte image a v p =
+        let q = placeOf (seen w im) a in
+        rw (write-ram image a v)
+        (by-test (toRam (seen w im) image a)
+        (λ yes.
+        rw yes
+        (by-test (eqb p q)
+        (λ here. let e : p ≡ q = eqb-true p q here in rw (here, e) (getD-set-same (w .ram) q v 0 (ram-at image a yes)))
+        (λ other. rw other (getD-set-other (w .ram) q p v 0 (eqb-false p q other)))))
+        (λ none. rw none))
+
+    -- each byte is one that landed there, or else as the tick's pixels are put
+    call-byte : (k : Call) (p : ℕ) → getD (leaves w k .ram) p 0 ≡ pick (lands (seen w im) k p) (byteIn k p) (getD (put k) p 0)
     unfolding leaves lands runsIn byteIn
-    call-ram reset = sym (none-put reset refl)
-    call-ram (read rom a) = ap (λ (u : World). u .ram) (read-leaves rom a) ∙ sym (none-put (read rom a) refl)
-    call-ram (write image a v) =
-        write-ram image a v
-        ∙ ap (pick (lands (seen w im) (write image a v)) (set (w .ram) (landsAt (seen w im) (write image a v)) v)) (sym (none-put (write image a v) refl))
-    call-ram (tick n) = tick-told n .ram
-    call-ram inspect = sym (none-put inspect refl)
-    call-ram (choose light level plain exposure) = sym (none-put (choose light level plain exposure) refl)
+    call-byte reset p = rw (none-put reset refl)
+    call-byte (read rom a) p = ap (λ (u : World). getD (u .ram) p 0) (read-leaves rom a) ∙ rw (none-put (read rom a) refl)
+    call-byte (write image a v) p = rw (write-byte image a v p, none-put (write image a v) refl)
+    call-byte (tick n) p = ap (λ (r : List ℕ). getD r p 0) (tick-told n .ram)
+    call-byte inspect p = rw (none-put inspect refl)
+    call-byte (choose light level plain exposure) p = rw (none-put (choose light level plain exposure) refl)
+
+    -- and there are as many
+    call-size : (k : Call) → length (leaves w k .ram) ≡ length (w .ram)
+    unfolding leaves
+    call-size reset = refl
+    call-size (read rom a) = ap (λ (u : World). length (u .ram)) (read-leaves rom a)
+    call-size (write image a v) =
+        rw (write-ram image a v) (pick-ind (λ (r : List ℕ). length r ≡ length (w .ram)) (toRam (seen w im) image a) (λ _. length-set (w .ram) _ v) (λ _. refl))
+    call-size (tick n) = rw (tick-told n .ram) (pixels-length (w .store) (c .taken) _ _ (w .ram))
+    call-size inspect = refl
+    call-size (choose light level plain exposure) = refl
 
 -- ---- along a history
 
@@ -443,15 +470,22 @@ module _ (t : Track) (w : World) (m : Moment t w) (k : Call) where
   pub count-next : countIn (answers w k) ≡ runsIn t k
   count-next = subst (λ (u : Track). countIn (answers w k) ≡ runsIn u k) (sym (m .told .same)) (call-count w (t .image) own exists k)
 
-  -- the RAM left
-  pub ram-next : leaves w k .ram ≡ pick (lands t k) (set (w .ram) (landsAt t k) (byteIn k)) (pixels (w .store) (t .taken) (doneBy (t .taken) (t .ran)) (doneBy (t .taken) (t .ran + runsIn t k)) (w .ram))
-  ram-next =
+  -- the RAM left: a byte that landed there, or else as the tick's pixels are put
+  abbrev pub put-next : List ℕ
+  put-next = pixels (w .store) (t .taken) (doneBy (t .taken) (t .ran)) (doneBy (t .taken) (t .ran + runsIn t k)) (w .ram)
+
+  pub byte-next : (p : ℕ) → getD (leaves w k .ram) p 0 ≡ pick (lands t k p) (byteIn k p) (getD put-next p 0)
+  byte-next p =
       subst
       (λ (u : Track).
-      leaves w k .ram
-      ≡ pick (lands u k) (set (w .ram) (landsAt u k) (byteIn k)) (pixels (w .store) (u .taken) (doneBy (u .taken) (u .ran)) (doneBy (u .taken) (u .ran + runsIn u k)) (w .ram)))
+      getD (leaves w k .ram) p 0
+      ≡ pick (lands u k p) (byteIn k p) (getD (pixels (w .store) (u .taken) (doneBy (u .taken) (u .ran)) (doneBy (u .taken) (u .ran + runsIn u k)) (w .ram)) p 0))
       (sym (m .told .same))
-      (call-ram w (t .image) own exists k)
+      (call-byte w (t .image) own exists k p)
+
+  -- its length stays
+  pub size-next : length (leaves w k .ram) ≡ length (w .ram)
+  size-next = call-size w (t .image) own exists k
 
 -- a capture held has cycles left
 pub cycles-left : (t : Track) (w : World) → Moment t w → t .held ≡ true → t .ran < cyclesOf (t .taken)

@@ -1,14 +1,13 @@
 -- While a capture runs or stands still: the pixels passed are the fresh picture's, the others what they were. Assumes nothing.
 use mathlib.Core.Path.{_≡_, refl, sym, ap, _∙_}
-use mathlib.Core.Bool.{Bool, true, false, not, _&&_, and-false}
+use mathlib.Core.Bool.{Bool, true, false, not, _&&_, and-false, or-true}
 use mathlib.Core.List.{List, [], _∷_, _++_}
 use Prim.Native.Nat.{ℕ, _+_, _-_, _*_, _/_, _%_, _<_, _≤_, min}
 use native.Mathlib.Nat.{add-zero, zero-add, add-assoc}
 use native.Mathlib.Omega.{arith}
 use lib.Dec.{eqb, leb, ltb}
-use lib.ListN.{length, set}
-use lib.Seq.{getD-set-other}
-use borrow.Author.Tests.{eqb-false, lt-ltb, le-ltb, le-leb, lt-leb, not-true}
+use lib.ListN.{length, getD}
+use borrow.Author.Tests.{eq-eqb, lt-ltb, le-ltb, le-leb, lt-leb}
 use Rattle.laws.specs.Pick.{pick}
 use Rattle.laws.specs.Bits.{isSet}
 use Rattle.laws.proofs.Order.{split}
@@ -25,11 +24,11 @@ use Rattle.tiles.proofs.Run.{pixels-none}
 use Rattle.timing.proofs.Range.{timed, done-mono, done-most, done-low}
 use Rattle.tiles.proofs.Pixels.{pixels-passed, pixels-others}
 use Rattle.history.specs.History.{Call, reset, read, write, tick, inspect, choose, World, fresh, leaves, after, counted}
-use Rattle.history.specs.Track.{Track, writeAccepted, runsIn, toRegisters, starts, imageIn, registersAt, lands, landsAt, byteIn, next, told}
-use Rattle.history.specs.Since.{Held, ofPixel, cycleOf, clear, goesOn}
-use Rattle.history.proofs.Picks.{by-test, not-both}
-use Rattle.history.proofs.Follows.{Moment, at-reset, moment-next, moment-after, count-next, ram-next}
-use Rattle.history.proofs.Outside.{size-next, ram-size, same-size}
+use Rattle.history.specs.Track.{Track, writeAccepted, runsIn, toRegisters, starts, imageIn, registersAt, toRam, lands, next, told}
+use Rattle.history.specs.Since.{Held, ofPixel, cycleOf, landed, Clear, goesOn}
+use Rattle.history.proofs.Picks.{not-both}
+use Rattle.history.proofs.Follows.{Moment, at-reset, moment-next, moment-after, count-next, put-next, byte-next, size-next}
+use Rattle.history.proofs.Outside.{ram-size, same-size}
 use Rattle.history.proofs.Goes.{Of, goes-next, first-goes, moment, moment-start, world-now, begun, same-world, same-count, start-count}
 
 -- pixel j is done exactly when its cycle has passed
@@ -41,22 +40,12 @@ passed regs j e most =
     (λ early. le-ltb j (min (e / 2 - pictureFrom regs) 14336) (omega arith) ∙ sym (lt-leb (2 * (readingFrom regs + (128 * (8 - firstRow regs) + j) + 1)) e early))
     (λ late. lt-ltb j (min (e / 2 - pictureFrom regs) 14336) (omega arith) ∙ sym (le-leb (2 * (readingFrom regs + (128 * (8 - firstRow regs) + j) + 1)) e late))
 
--- a byte stored elsewhere leaves the pixel
-far : (ram : List ℕ) (p v j : ℕ) → ofPixel j p ≡ false → shadeIn (set ram p v) (j % 128) (j / 128) ≡ shadeIn ram (j % 128) (j / 128)
+-- the shade of a pixel is told by its two bytes
+same-shade : (r s : List ℕ) (j : ℕ) → ((p : ℕ) → ofPixel j p ≡ true → getD r p 0 ≡ getD s p 0) → shadeIn r (j % 128) (j / 128) ≡ shadeIn s (j % 128) (j / 128)
 unfolding ofPixel shadeIn
-far ram p v j out =
+same-shade r s j e =
     let q = place (j % 128) (j / 128) in
-    rw (getD-set-other ram p q v 0 (λ e. eqb-false p q (neither-left (eqb p q) (eqb p (q + 1)) out) (sym e)), getD-set-other ram p (q + 1) v 0 (λ e. eqb-false p (q + 1) (neither-right (eqb p q) (eqb p (q + 1)) out) (sym e)))
-
--- a write that lands runs no cycle
-lands-count : (t : Track) (k : Call) → lands t k ≡ true → runsIn t k ≡ 0
-unfolding lands runsIn
-lands-count t reset h = refl
-lands-count t (read rom a) h = refl
-lands-count t (write image a v) h = refl
-lands-count t (tick n) h = not-both h refl
-lands-count t inspect h = refl
-lands-count t (choose light level plain exposure) h = refl
+    rw (e q (rw (eq-eqb q q refl)), e (q + 1) (rw (eq-eqb (q + 1) (q + 1) refl) (or-true (eqb (q + 1) q))))
 
 -- over a RAM of one bank at least
 starts-long : (t : Track) (k : Call) → starts t k ≡ true → 8192 ≤ t .ramSize
@@ -98,32 +87,30 @@ module _ (image regs old : List ℕ) (j : ℕ) (most : j < 14336) where
 
   -- one call
   pub shown-next : (t : Track) (w : World) (m : Moment t w) (n : ℕ) (k : Call) → Of image regs n t → 8192 ≤ length (w .ram)
-      → (lands t k && ofPixel j (landsAt t k)) ≡ false → Shown n (w .ram) → Shown (n + runsIn t k) (leaves w k .ram)
+      → ((p : ℕ) → ofPixel j p ≡ true → lands t k p ≡ false) → Shown n (w .ram) → Shown (n + runsIn t k) (leaves w k .ram)
   shown-next t w m n k o long out s =
       let held : w .state .held ≡ true = sym (ap (λ (u : Track). u .held) (m .told .same)) ∙ o .held in
       let frame : w .store ≡ image = m .told .own held ∙ o .image in
       let taken : t .taken ≡ regs = o .taken in
       let ran : t .ran ≡ n = o .ran in
-      let put = pixels (w .store) (t .taken) (doneBy (t .taken) (t .ran)) (doneBy (t .taken) (t .ran + runsIn t k)) (w .ram) in
-      let same : put ≡ pixels image regs (doneBy regs n) (doneBy regs (n + runsIn t k)) (w .ram) = cc in
-      by-test (lands t k)
-      (λ on. rw (ram-next t w m k, on, lands-count t k on, add-zero n) (far (w .ram) (landsAt t k) (byteIn k) j (rw on at out) ∙ s))
-      (λ off. rw (ram-next t w m k, off) (ap shade same ∙ more-shown n (runsIn t k) (w .ram) long s))
+      let same : put-next t w m k ≡ pixels image regs (doneBy regs n) (doneBy regs (n + runsIn t k)) (w .ram) = cc in
+      same-shade (leaves w k .ram) (put-next t w m k) j (λ p here. byte-next t w m k p ∙ rw (out p here))
+      ∙ ap shade same
+      ∙ more-shown n (runsIn t k) (w .ram) long s
 
--- what the first call must be
-pub first-clear : (places : ℕ → Bool) (t : Track) (k : Call) (cs : List Call) → clear places t (k ∷ cs) ≡ true
-    → ((lands t k && places (landsAt t k)) ≡ false) × (clear places (next t k) cs ≡ true)
-unfolding clear
+-- where no call landed, the first did not and the others did not
+pub first-clear : (places : ℕ → Bool) (t : Track) (k : Call) (cs : List Call) → Clear places t (k ∷ cs)
+    → ((p : ℕ) → places p ≡ true → lands t k p ≡ false) × Clear places (next t k) cs
+unfolding landed
 first-clear places t k cs c =
-    let here = lands t k && places (landsAt t k) in
-    (not-true here (both-left (not here) (clear places (next t k) cs) c), both-right (not here) (clear places (next t k) cs) c)
+    (λ p here. neither-left (lands t k p) (landed p (next t k) cs) (c p here), λ p here. neither-right (lands t k p) (landed p (next t k) cs) (c p here))
 
 -- calls through which the capture goes on
 pub shown-through : (image regs old : List ℕ) (j : ℕ) (most : j < 14336) (cs : List Call) (t : Track) (w : World) (m : Moment t w) (n : ℕ)
     → Of image regs n t
     → 8192 ≤ length (w .ram)
     → goesOn t cs ≡ true
-    → clear (ofPixel j) t cs ≡ true
+    → Clear (ofPixel j) t cs
     → Shown image regs old j most n (w .ram)
     → Shown image regs old j most (n + counted w cs) (after w cs .ram)
 unfolding after counted
@@ -142,22 +129,23 @@ shown-through image regs old j most (k ∷ cs) t w m n o long g c s =
 -- ---- from reset
 
 -- a start goes to the registers, and leaves the RAM
-starts-lands : (t : Track) (k : Call) → starts t k ≡ true → lands t k ≡ false
-unfolding starts toRegisters lands
-starts-lands t reset h = refl
-starts-lands t (read rom a) h = refl
-starts-lands t (write image a v) h =
+starts-lands : (t : Track) (k : Call) (p : ℕ) → starts t k ≡ true → lands t k p ≡ false
+unfolding starts toRegisters lands toRam
+starts-lands t reset p h = refl
+starts-lands t (read rom a) p h = refl
+starts-lands t (write image a v) p h =
     let ok = writeAccepted t image a in
     let high = not (ltb a 0x8000) in
     let regs = isSet (t .select) 4 in
     let on : regs ≡ true = both-right high regs (both-right ok (high && regs) (both-left (ok && (high && regs)) _ h)) in
     simp (on, and-false)
-starts-lands t (tick n) h = refl
-starts-lands t inspect h = refl
-starts-lands t (choose light level plain exposure) h = refl
+starts-lands t (tick n) p h = refl
+starts-lands t inspect p h = refl
+starts-lands t (choose light level plain exposure) p h = refl
 
-start-ram : (t : Track) (w : World) (m : Moment t w) (k : Call) → starts t k ≡ true → leaves w k .ram ≡ w .ram
-start-ram t w m k h = rw (ram-next t w m k, starts-lands t k h, start-count t k h, add-zero (t .ran)) (pixels-none (w .store) (t .taken) (doneBy (t .taken) (t .ran)) (w .ram))
+start-byte : (t : Track) (w : World) (m : Moment t w) (k : Call) (p : ℕ) → starts t k ≡ true → getD (leaves w k .ram) p 0 ≡ getD (w .ram) p 0
+start-byte t w m k p h =
+    byte-next t w m k p ∙ rw (starts-lands t k p h, start-count t k h, add-zero (t .ran), pixels-none (w .store) (t .taken) (doneBy (t .taken) (t .ran)) (w .ram))
 
 -- it is over a RAM of one bank at least
 pub long-ram : (ram store : List ℕ) (before : List Call) (start : Call) → starts (told ram store before) start ≡ true → 8192 ≤ length ram
@@ -165,7 +153,7 @@ long-ram ram store before start h =
     let m = moment-after before _ _ (at-reset ram store) in
     rw (← same-size ram store before, ram-size (told ram store before) (after (fresh ram store) before) m start) (starts-long (told ram store before) start h)
 
-module _ (ram store : List ℕ) (before : List Call) (start : Call) (between : List Call) (h : Held (told ram store before) start between) (j : ℕ) (most : j < 14336) (c : clear (ofPixel j) (next (told ram store before) start) between ≡ true) where
+module _ (ram store : List ℕ) (before : List Call) (start : Call) (between : List Call) (h : Held (told ram store before) start between) (j : ℕ) (most : j < 14336) (c : Clear (ofPixel j) (next (told ram store before) start) between) where
   abbrev t₀ : Track
   t₀ = told ram store before
 
@@ -174,12 +162,14 @@ module _ (ram store : List ℕ) (before : List Call) (start : Call) (between : L
 
   long-now : 8192 ≤ length (leaves w₀ start .ram)
   long-now =
-      rw (start-ram t₀ w₀ (moment ram store before start between h) start (h .begins), same-size ram store before)
+      rw (size-next t₀ w₀ (moment ram store before start between h) start, same-size ram store before)
       (long-ram ram store before start (h .begins))
 
   -- at the start no pixel is done
   shown-first : Shown (imageIn start) (registersAt t₀ start) (w₀ .ram) j most 0 (leaves w₀ start .ram)
-  shown-first = rw (start-ram t₀ w₀ (moment ram store before start between h) start (h .begins), done-low (registersAt t₀ start) 0 (omega arith), le-ltb j 0 (omega arith))
+  shown-first =
+      rw (done-low (registersAt t₀ start) 0 (omega arith), le-ltb j 0 (omega arith))
+      (same-shade (leaves w₀ start .ram) (w₀ .ram) j (λ p _. start-byte t₀ w₀ (moment ram store before start between h) start p (h .begins)))
 
   pub shown-now : Shown (imageIn start) (registersAt t₀ start) (w₀ .ram) j most (counted w₀ (start ∷ between)) (world-now ram store before start between h .ram)
   shown-now =
@@ -199,7 +189,7 @@ module _ (ram store : List ℕ) (before : List Call) (start : Call) (between : L
 pub half-picture : (ram store : List ℕ) (before : List Call) (start : Call) (between : List Call) (j : ℕ)
     → j < 14336
     → Held (told ram store before) start between
-    → clear (ofPixel j) (next (told ram store before) start) between ≡ true
+    → Clear (ofPixel j) (next (told ram store before) start) between
     → shadeIn (after (fresh ram store) (before ++ (start ∷ between)) .ram) (j % 128) (j / 128)
     ≡ pick (leb (cycleOf (registersAt (told ram store before) start) j) (counted (after (fresh ram store) before) (start ∷ between)))
     (pictureShade (imageIn start) (registersAt (told ram store before) start) (j % 128) (j / 128))

@@ -1,15 +1,15 @@
 -- A capture that ended left the picture of its start in the area, if no bus write landed there since. Assumes nothing.
 use mathlib.Core.Path.{_≡_, refl, sym, ap, _∙_}
-use mathlib.Core.Bool.{true, false, not, _&&_}
+use mathlib.Core.Bool.{true, false, not}
 use mathlib.Core.List.{List, [], _∷_, _++_}
 use Prim.Native.Nat.{ℕ, _+_, _*_, _/_, _%_, _<_, _≤_}
 use native.Mathlib.Nat.{add-zero}
 use native.Mathlib.Omega.{arith}
-use lib.Dec.{eqb, ltb}
-use lib.ListN.{length, getD, set, drop, length-take, length-drop}
-use lib.Seq.{getD-set-same, getD-set-other, set-out, getD-take, getD-drop, ext-getD}
-use borrow.Author.Tests.{eqb-true, eqb-false, ltb-true, lt-ltb, le-leb, not-true}
-use Rattle.laws.proofs.Order.{split}
+use lib.Dec.{eqb}
+use lib.ListN.{length, getD, drop, length-take, length-drop}
+use lib.Seq.{getD-take, getD-drop, ext-getD}
+use borrow.Author.Tests.{eqb-true, ltb-true, lt-ltb, le-leb, not-true}
+use Rattle.laws.proofs.Pick.{pick-ind}
 use Rattle.timing.specs.Lent.{ramAllowed}
 use Rattle.tiles.specs.Tiles.{place, shadeIn, areaOf, Bytes}
 use Rattle.tiles.specs.Picture.{pictureShade, pictureOf}
@@ -23,10 +23,10 @@ use Rattle.tiles.proofs.Area.{area-whole}
 use Rattle.plates.specs.Grey.{plateOf, plateAfresh}
 use Rattle.plates.proofs.Same.{afresh-plate}
 use Rattle.history.specs.History.{Call, reset, read, write, tick, inspect, choose, World, fresh, leaves, after, counted}
-use Rattle.history.specs.Track.{Track, tickAccepted, runsIn, starts, ends, imageIn, registersAt, lands, landsAt, byteIn, next, told}
-use Rattle.history.specs.Since.{Whole, inArea, ofPixel, clear, noStart, bytesIn}
+use Rattle.history.specs.Track.{Track, tickAccepted, runsIn, starts, ends, imageIn, registersAt, lands, byteIn, next, told}
+use Rattle.history.specs.Since.{Whole, inArea, ofPixel, Clear, noStart, writesByte, bytesIn}
 use Rattle.history.proofs.Picks.{by-test, not-both}
-use Rattle.history.proofs.Follows.{Moment, at-reset, moment-next, moment-after, ram-next, cycles-total}
+use Rattle.history.proofs.Follows.{Moment, at-reset, moment-next, moment-after, put-next, byte-next, cycles-total}
 use Rattle.history.proofs.Outside.{ram-size, size-after, same-size}
 use Rattle.history.proofs.Goes.{Of, rests-next, end-count, on, same-world, now-last, world-last, moment-last, whole-world}
 use Rattle.history.proofs.OwnFrame.{at-end}
@@ -34,14 +34,14 @@ use Rattle.history.proofs.HalfPicture.{shown-next, shown-now, first-cle
 
 -- ---- bytes stay bytes
 
-set-bytes : (l : List ℕ) (p v : ℕ) → Bytes l → v < 256 → Bytes (set l p v)
-set-bytes l p v b small i =
-    split p (length l)
-    (λ inside.
-    by-test (eqb i p)
-    (λ here. let e : i ≡ p = eqb-true i p here in rw (e, getD-set-same l p v 0 inside) small)
-    (λ other. rw (getD-set-other l p i v 0 (eqb-false i p other)) (b i)))
-    (λ out. rw (set-out l p v out) (b i))
+byte-small : (k : Call) (p : ℕ) → writesByte k ≡ true → byteIn k p < 256
+unfolding writesByte byteIn
+byte-small reset p h = omega arith
+byte-small (read rom a) p h = omega arith
+byte-small (write image a v) p h = ltb-true v 256 h
+byte-small (tick n) p h = omega arith
+byte-small inspect p h = omega arith
+byte-small (choose light level plain exposure) p h = omega arith
 
 -- a RAM that is not allowed runs no cycle
 short-runs : (t : Track) (k : Call) → ramAllowed (t .ramSize) ≡ false → runsIn t k ≡ 0
@@ -53,21 +53,22 @@ short-runs t (tick n) h = rw h
 short-runs t inspect h = refl
 short-runs t (choose light level plain exposure) h = refl
 
-bytes-next : (t : Track) (w : World) (m : Moment t w) (k : Call) → byteIn k < 256 → Bytes (w .ram) → Bytes (leaves w k .ram)
-bytes-next t w m k small b =
-    by-test (lands t k)
-    (λ on. rw (ram-next t w m k, on) (set-bytes (w .ram) (landsAt t k) (byteIn k) b small))
-    (λ off.
+put-bytes : (t : Track) (w : World) (m : Moment t w) (k : Call) → Bytes (w .ram) → Bytes (put-next t w m k)
+put-bytes t w m k b =
     by-test (ramAllowed (t .ramSize))
-    (λ ok. rw (ram-next t w m k, off) (pixels-bytes (w .store) (t .taken) _ _ (w .ram) (done-most (t .taken) _) (rw (ram-size t w m k) (ram-lent (t .ramSize) ok .least)) b))
-    (λ bad. rw (ram-next t w m k, off, short-runs t k bad, add-zero (t .ran), pixels-none (w .store) (t .taken) (doneBy (t .taken) (t .ran)) (w .ram)) b))
+    (λ ok. pixels-bytes (w .store) (t .taken) _ _ (w .ram) (done-most (t .taken) _) (rw (ram-size t w m k) (ram-lent (t .ramSize) ok .least)) b)
+    (λ bad. rw (short-runs t k bad, add-zero (t .ran), pixels-none (w .store) (t .taken) (doneBy (t .taken) (t .ran)) (w .ram)) b)
+
+bytes-next : (t : Track) (w : World) (m : Moment t w) (k : Call) → writesByte k ≡ true → Bytes (w .ram) → Bytes (leaves w k .ram)
+bytes-next t w m k small b p =
+    rw (byte-next t w m k p) (pick-ind (λ (x : ℕ). x < 256) (lands t k p) (λ _. byte-small k p small) (λ _. put-bytes t w m k b p))
 
 bytes-after : (cs : List Call) (t : Track) (w : World) → Moment t w → bytesIn cs ≡ true → Bytes (w .ram) → Bytes (after w cs .ram)
 unfolding after bytesIn
 bytes-after [] t w m s b = b
 bytes-after (k ∷ cs) t w m s b =
-    bytes-after cs (next t k) (leaves w k) (moment-next t w m k) (both-right (ltb (byteIn k) 256) (bytesIn cs) s)
-    (bytes-next t w m k (ltb-true (byteIn k) 256 (both-left (ltb (byteIn k) 256) (bytesIn cs) s)) b)
+    bytes-after cs (next t k) (leaves w k) (moment-next t w m k) (both-right (writesByte k) (bytesIn cs) s)
+    (bytes-next t w m k (both-left (writesByte k) (bytesIn cs) s) b)
 
 -- ---- a pixel's bytes stand in the area
 
@@ -79,32 +80,17 @@ within j p most h =
     (λ here. let e : p ≡ q = eqb-true p q here in rw (le-leb 0x100 p (omega arith)) (le-leb p 0xEFF (omega arith)))
     (λ other. let e : p ≡ q + 1 = eqb-true p (q + 1) (rw other at h) in rw (le-leb 0x100 p (omega arith)) (le-leb p 0xEFF (omega arith)))
 
--- so where no write landed in the area, none landed in a pixel
-clear-pixel : (j : ℕ) → j < 14336 → (cs : List Call) (t : Track) → clear inArea t cs ≡ true → clear (ofPixel j) t cs ≡ true
-unfolding clear
-clear-pixel j most [] t c = refl
-clear-pixel j most (k ∷ cs) t c =
-    let f = first-clear inArea t k cs c in
-    let out : (lands t k && ofPixel j (landsAt t k)) ≡ false =
-    by-test (lands t k)
-    (λ on.
-    by-test (ofPixel j (landsAt t k))
-    (λ in-pixel. not-both (within j (landsAt t k) most in-pixel) (rw on at (f .0)))
-    (λ far. rw (on, far)))
-    (λ off. rw off) in
-    rw out (clear-pixel j most cs (next t k) (f .1))
-
 -- ---- the end
 
 -- the call in which a capture ends is a tick
-ends-lands : (t : Track) (k : Call) → ends t k ≡ true → lands t k ≡ false
+ends-lands : (t : Track) (k : Call) (p : ℕ) → ends t k ≡ true → lands t k p ≡ false
 unfolding ends lands
-ends-lands t reset h = refl
-ends-lands t (read rom a) h = refl
-ends-lands t (write image a v) h = not-both h refl
-ends-lands t (tick n) h = refl
-ends-lands t inspect h = refl
-ends-lands t (choose light level plain exposure) h = refl
+ends-lands t reset p h = refl
+ends-lands t (read rom a) p h = refl
+ends-lands t (write image a v) p h = not-both h refl
+ends-lands t (tick n) p h = refl
+ends-lands t inspect p h = refl
+ends-lands t (choose light level plain exposure) p h = refl
 
 module _ (ram store : List ℕ) (before : List Call) (start : Call) (between : List Call) (last : Call) (h : Whole (told ram store before) start between last) where
   abbrev t₀ : Track
@@ -138,18 +124,18 @@ module _ (ram store : List ℕ) (before : List Call) (start : Call) (between : L
   long : 8192 ≤ length (w .ram)
   long = rw (← same-world ram store before start between (h .held), same-size ram store (before ++ (start ∷ between))) (long-ram ram store before start (h .held .begins))
 
-  module _ (c : clear inArea (next t₀ start) between ≡ true) where
+  module _ (c : Clear inArea (next t₀ start) between) where
     pixel-done : (j : ℕ) → j < 14336 → shadeIn (leaves w last .ram) (j % 128) (j / 128) ≡ pictureShade (imageIn start) regs (j % 128) (j / 128)
     pixel-done j most =
         rw (all-done, lt-ltb j 14336 most) at
-        (shown-next (imageIn start) regs (w₀ .ram) j most t w m n last o long (rw (ends-lands t last (h .over)))
-        (shown-now ram store before start between (h .held) j most (clear-pixel j most between (next t₀ start) c)))
+        (shown-next (imageIn start) regs (w₀ .ram) j most t w m n last o long (λ p _. ends-lands t last p (h .over))
+        (shown-now ram store before start between (h .held) j most (λ p here. c p (within j p most here))))
 
 -- Picture: any calls, a start, any calls with no reset up to and with the one in which that capture reaches its end, none of which landed
 -- in the picture area: the area's 3,584 bytes are the picture afresh from the image lent at the start and the registers at the start
 pub picture : (ram store : List ℕ) (before : List Call) (start : Call) (between : List Call) (last : Call)
     → Whole (told ram store before) start between last
-    → clear inArea (next (told ram store before) start) between ≡ true
+    → Clear inArea (next (told ram store before) start) between
     → Bytes ram
     → bytesIn (before ++ (start ∷ (between ++ (last ∷ [])))) ≡ true
     → areaOf (after (fresh ram store) (before ++ (start ∷ (between ++ (last ∷ [])))) .ram) ≡ pictureOf (imageIn start) (registersAt (told ram store before) start)
@@ -166,7 +152,7 @@ picture ram store before start between last h c first bytes =
 -- Plate: the file exported of such a plate is the file of the picture afresh
 pub plate : (ram store : List ℕ) (before : List Call) (start : Call) (between : List Call) (last : Call)
     → Whole (told ram store before) start between last
-    → clear inArea (next (told ram store before) start) between ≡ true
+    → Clear inArea (next (told ram store before) start) between
     → Bytes ram
     → bytesIn (before ++ (start ∷ (between ++ (last ∷ [])))) ≡ true
     → plateOf (after (fresh ram store) (before ++ (start ∷ (between ++ (last ∷ [])))) .ram) ≡ plateAfresh (imageIn start) (registersAt (told ram store before) start)
@@ -184,17 +170,12 @@ first-rests : (t : Track) (k : Call) (cs : List Call) → noStart t (k ∷ cs) �
 unfolding noStart
 first-rests t k cs h = (not-true (starts t k) (both-left (not (starts t k)) (noStart (next t k) cs) h), both-right (not (starts t k)) (noStart (next t k) cs) h)
 
--- a byte of the area, while no capture is held and no write lands there
-stays-next : (t : Track) (w : World) (m : Moment t w) (k : Call) (p : ℕ) → inArea p ≡ true → runsIn t k ≡ 0 → (lands t k && inArea (landsAt t k)) ≡ false
-    → getD (leaves w k .ram) p 0 ≡ getD (w .ram) p 0
-stays-next t w m k p here still out =
-    by-test (lands t k)
-    (λ on.
-    rw (ram-next t w m k, on)
-    (getD-set-other (w .ram) (landsAt t k) p (byteIn k) 0 (λ e. not-both here (ap inArea e ∙ rw on at out))))
-    (λ off. rw (ram-next t w m k, off, still, add-zero (t .ran), pixels-none (w .store) (t .taken) (doneBy (t .taken) (t .ran)) (w .ram)))
+-- a byte, while no capture is held and no write lands there
+stays-next : (t : Track) (w : World) (m : Moment t w) (k : Call) (p : ℕ) → runsIn t k ≡ 0 → lands t k p ≡ false → getD (leaves w k .ram) p 0 ≡ getD (w .ram) p 0
+stays-next t w m k p still out =
+    byte-next t w m k p ∙ rw (out, still, add-zero (t .ran), pixels-none (w .store) (t .taken) (doneBy (t .taken) (t .ran)) (w .ram))
 
-stays-through : (cs : List Call) (t : Track) (w : World) → Moment t w → t .held ≡ false → noStart t cs ≡ true → clear inArea t cs ≡ true
+stays-through : (cs : List Call) (t : Track) (w : World) → Moment t w → t .held ≡ false → noStart t cs ≡ true → Clear inArea t cs
     → (p : ℕ) → inArea p ≡ true → getD (after w cs .ram) p 0 ≡ getD (w .ram) p 0
 unfolding after
 stays-through [] t w m h s c p here = refl
@@ -202,7 +183,7 @@ stays-through (k ∷ cs) t w m h s c p here =
     let f = first-rests t k cs s in
     let g = first-clear inArea t k cs c in
     let r = rests-next t k h (f .0) in
-    stays-through cs (next t k) (leaves w k) (moment-next t w m k) (r .1) (f .1) (g .1) p here ∙ stays-next t w m k p here (r .0) (g .0)
+    stays-through cs (next t k) (leaves w k) (moment-next t w m k) (r .1) (f .1) (g .1) p here ∙ stays-next t w m k p (r .0) (g .0 p here)
 
 -- two RAMs of a length with the same bytes there have the same area
 area-same : (r s : List ℕ) → length r ≡ length s → ((p : ℕ) → inArea p ≡ true → getD r p 0 ≡ getD s p 0) → areaOf r ≡ areaOf s
@@ -219,9 +200,9 @@ area-same r s l e =
 -- Picture stays: through any calls after the end, with no start and none that landed in the area, the area is that picture
 pub picture-stays : (ram store : List ℕ) (before : List Call) (start : Call) (between : List Call) (last : Call) (later : List Call)
     → Whole (told ram store before) start between last
-    → clear inArea (next (told ram store before) start) between ≡ true
+    → Clear inArea (next (told ram store before) start) between
     → noStart (told ram store (before ++ (start ∷ (between ++ (last ∷ []))))) later ≡ true
-    → clear inArea (told ram store (before ++ (start ∷ (between ++ (last ∷ []))))) later ≡ true
+    → Clear inArea (told ram store (before ++ (start ∷ (between ++ (last ∷ []))))) later
     → Bytes ram
     → bytesIn (before ++ (start ∷ (between ++ (last ∷ [])))) ≡ true
     → areaOf (after (after (fresh ram store) (before ++ (start ∷ (between ++ (last ∷ []))))) later .ram) ≡ pictureOf (imageIn start) (registersAt (told ram store before) start)

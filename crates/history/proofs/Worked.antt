@@ -1,12 +1,14 @@
 -- Worked histories: calls that meet all premises of `cycles`, `picture`, `half-picture` and `outside`, and that are counted, so that nobody doubts that they can be met. Assumes nothing.
 use mathlib.Core.Path.{_≡_, refl, sym, ap, _∙_}
-use mathlib.Core.Bool.{true}
+use mathlib.Core.Bool.{true, false}
 use mathlib.Core.List.{List, [], _∷_, _++_}
 use Prim.Native.Nat.{ℕ, _+_, _*_, _/_, _%_, _<_, _≤_}
 use native.Mathlib.Omega.{arith}
 use lib.Count.{ones, onesIn}
+use lib.Dec.{eqb, leb}
 use lib.ListN.{length, getD, replicate, length-replicate, getD-replicate, List·getD-eq-default}
-use borrow.Author.Tests.{le-leb, lt-leb}
+use borrow.Author.Tests.{le-leb, lt-leb, leb-true, ne-eqb}
+use Rattle.laws.proofs.Bools.{both-right}
 use Rattle.laws.proofs.Order.{split}
 use Rattle.sensor.specs.Taken.{exposureOf}
 use Rattle.timing.specs.Lent.{banksAllowed}
@@ -15,8 +17,8 @@ use Rattle.tiles.specs.Tiles.{shadeIn, areaOf, Bytes}
 use Rattle.tiles.specs.Picture.{pictureShade, pictureOf}
 use Rattle.controller.specs.Bus.{onCartridge}
 use Rattle.history.specs.History.{Call, reset, read, write, tick, inspect, fresh, after, counted}
-use Rattle.history.specs.Track.{atReset, writeAccepted, tickAccepted, cyclesOf, runsIn, ends, toRegisters, starts, imageIn, registersAt, lands, landsAt, byteIn, enabling, selecting, storing, beginning, running, ending, controlled, registered, written, next, follow, told}
-use Rattle.history.specs.Since.{isReset, goesOn, Held, Whole, inArea, ofPixel, cycleOf, clear, lastIn, bytesIn}
+use Rattle.history.specs.Track.{atReset, writeAccepted, tickAccepted, cyclesOf, runsIn, ends, toRegisters, starts, imageIn, registersAt, toRam, placeOf, lands, byteIn, enabling, selecting, storing, beginning, running, ending, controlled, registered, written, next, follow, told}
+use Rattle.history.specs.Since.{isReset, goesOn, Held, Whole, inArea, ofPixel, cycleOf, landed, Clear, lastIn, writesByte, bytesIn}
 use Rattle.history.specs.Counts.{tally, startsTold, endsTold}
 use Rattle.history.proofs.Counts.{Counts, started-counts, ended-counts}
 use Rattle.history.proofs.Outside.{outside}
@@ -82,11 +84,11 @@ pub record Premises : Type 0 where
   pub regs-at-start : registersAt (told ram store before) start ≡ regs
   -- from its start to its end; no write landed in the area; what is written are bytes
   pub whole : Whole (told ram store before) start between last
-  pub untouched : clear inArea (next (told ram store before) start) between ≡ true
+  pub untouched : Clear inArea (next (told ram store before) start) between
   pub bytes : bytesIn calls ≡ true
   -- at the stop; no write landed in any pixel
   pub held : Held (told ram store before) start stopped
-  pub unwritten : (j : ℕ) → clear (ofPixel j) (next (told ram store before) start) stopped ≡ true
+  pub unwritten : (j : ℕ) → Clear (ofPixel j) (next (told ram store before) start) stopped
   pub ran : follow (next (told ram store before) start) stopped .ran ≡ 3000
   -- one write landed, at 1000h
   pub landed : (first : ℕ) → lastIn 0x1000 (atReset (length ram) (length store)) calls first ≡ 0x5A
@@ -95,15 +97,20 @@ pub record Premises : Type 0 where
   pub told-again : (startsTold ram store (calls ++ (start ∷ [])) ≡ 2) × (endsTold ram store (calls ++ (start ∷ [])) ≡ 1)
   pub told-reset : (startsTold ram store (calls ++ (reset ∷ [])) ≡ 0) × (endsTold ram store (calls ++ (reset ∷ [])) ≡ 0)
 
+-- 1000h is no place of the area
+beside : (p : ℕ) → inArea p ≡ true → eqb p 0x1000 ≡ false
+unfolding inArea
+beside p here = ne-eqb p 0x1000 (λ e. omega (arith, leb-true p 0xEFF (both-right (leb 0x100 p) (leb p 0xEFF) here)))
+
 pub premises : Premises
-unfolding registersAt starts toRegisters writeAccepted tickAccepted banksAllowed ones onesIn onCartridge follow next atReset written registered controlled enabling selecting storing beginning running ending ends runsIn cyclesOf goesOn isReset clear inArea lands landsAt byteIn bytesIn lastIn tally
+unfolding registersAt starts toRegisters writeAccepted tickAccepted banksAllowed ones onesIn onCartridge follow next atReset written registered controlled enabling selecting storing beginning running ending ends runsIn cyclesOf goesOn isReset landed inArea toRam placeOf lands byteIn writesByte bytesIn lastIn tally
 premises = record {
   regs-at-start = refl;
   whole = record { held = record { begins = refl; goes = refl }; over = refl };
-  untouched = refl;
+  untouched = λ p here. rw (beside p here);
   bytes = refl;
   held = record { begins = refl; goes = refl };
-  unwritten = λ j. refl;
+  unwritten = λ j p here. refl;
   ran = refl;
   landed = λ first. refl;
   told-once = (refl, refl);

@@ -8,7 +8,7 @@ use Rattle.laws.specs.Pick.{pick}
 use Rattle.timing.specs.Timing.{readingFrom, firstRow}
 use Rattle.tiles.specs.Tiles.{place}
 use Rattle.history.specs.History.{Call, reset, read, write, tick, inspect, choose, World}
-use Rattle.history.specs.Track.{Track, next, follow, told, starts, ends, lands, landsAt, byteIn}
+use Rattle.history.specs.Track.{Track, next, follow, told, starts, ends, lands, byteIn}
 
 -- whether a call is a reset
 unfoldable pub isReset : Call → Bool
@@ -61,10 +61,14 @@ ofPixel j p = eqb p (place (j % 128) (j / 128)) || eqb p (place (j % 128) (j / 1
 unfoldable pub cycleOf : List ℕ → ℕ → ℕ
 cycleOf regs j = 2 * (readingFrom regs + (128 * (8 - firstRow regs) + j) + 1)
 
--- no bus write of these calls landed in these places
-unfoldable pub clear : (ℕ → Bool) → Track → List Call → Bool
-clear places t [] = true
-clear places t (c ∷ cs) = not (lands t c && places (landsAt t c)) && clear places (next t c) cs
+-- a bus write of these calls landed in this place
+unfoldable pub landed : ℕ → Track → List Call → Bool
+landed p t [] = false
+landed p t (c ∷ cs) = lands t c p || landed p (next t c) cs
+
+-- none landed in these places
+abbrev pub Clear : (ℕ → Bool) → Track → List Call → Type 0
+Clear places t cs = (p : ℕ) → places p ≡ true → landed p t cs ≡ false
 
 -- none of these calls is a start
 unfoldable pub noStart : Track → List Call → Bool
@@ -74,9 +78,18 @@ noStart t (c ∷ cs) = not (starts t c) && noStart (next t c) cs
 -- the last byte that a bus write of these calls landed in a place, or else what it held at first
 unfoldable pub lastIn : ℕ → Track → List Call → ℕ → ℕ
 lastIn p t [] first = first
-lastIn p t (c ∷ cs) first = lastIn p (next t c) cs (pick (lands t c && eqb (landsAt t c) p) (byteIn c) first)
+lastIn p t (c ∷ cs) first = lastIn p (next t c) cs (pick (lands t c p) (byteIn c p) first)
+
+-- what a call writes is a byte
+unfoldable pub writesByte : Call → Bool
+writesByte reset = true
+writesByte (read rom a) = true
+writesByte (write image a v) = ltb v 256
+writesByte (tick n) = true
+writesByte inspect = true
+writesByte (choose light level plain exposure) = true
 
 -- what these calls write are bytes
 unfoldable pub bytesIn : List Call → Bool
 bytesIn [] = true
-bytesIn (c ∷ cs) = ltb (byteIn c) 256 && bytesIn cs
+bytesIn (c ∷ cs) = writesByte c && bytesIn cs

@@ -106,33 +106,32 @@ registersAt t (tick n) = []
 registersAt t inspect = []
 registersAt t (choose light level plain exposure) = []
 
--- a write lands in the RAM: A000-BFFF with bit 4 of select clear, register 0 has bit 0 clear, RAM writing is enabled
-unfoldable pub lands : Track → Call → Bool
-lands t reset = false
-lands t (read rom a) = false
-lands t (write image a v) =
+-- a write goes to the RAM: A000-BFFF with bit 4 of select clear, register 0 has bit 0 clear, RAM writing is enabled
+unfoldable pub toRam : Track → List ℕ → ℕ → Bool
+toRam t image a =
     writeAccepted t image a && (not (ltb a 0x8000) && (not (isSet (t .select) 4) && (not (started (t .registers)) && t .enabled)))
-lands t (tick n) = false
-lands t inspect = false
-lands t (choose light level plain exposure) = false
 
--- where it lands: RAM bank select modulo 16, bank numbers modulo the banks lent
-unfoldable pub landsAt : Track → Call → ℕ
-landsAt t reset = 0
-landsAt t (read rom a) = 0
-landsAt t (write image a v) = t .select % 16 % (t .ramSize / 8192) * 8192 + a % 8192
-landsAt t (tick n) = 0
-landsAt t inspect = 0
-landsAt t (choose light level plain exposure) = 0
+-- to which place: RAM bank select modulo 16, bank numbers modulo the banks lent
+unfoldable pub placeOf : Track → ℕ → ℕ
+placeOf t a = t .select % 16 % (t .ramSize / 8192) * 8192 + a % 8192
 
--- and which byte
-unfoldable pub byteIn : Call → ℕ
-byteIn reset = 0
-byteIn (read rom a) = 0
-byteIn (write image a v) = v
-byteIn (tick n) = 0
-byteIn inspect = 0
-byteIn (choose light level plain exposure) = 0
+-- a bus write of a call lands in this place of the RAM
+unfoldable pub lands : Track → Call → ℕ → Bool
+lands t reset p = false
+lands t (read rom a) p = false
+lands t (write image a v) p = toRam t image a && eqb p (placeOf t a)
+lands t (tick n) p = false
+lands t inspect p = false
+lands t (choose light level plain exposure) p = false
+
+-- and which byte it brings there
+unfoldable pub byteIn : Call → ℕ → ℕ
+byteIn reset p = 0
+byteIn (read rom a) p = 0
+byteIn (write image a v) p = v
+byteIn (tick n) p = 0
+byteIn inspect p = 0
+byteIn (choose light level plain exposure) p = 0
 
 -- what is told, with one thing changed
 unfoldable pub enabling : Track → Bool → Track
