@@ -24,7 +24,7 @@ use Rattle.controller.specs.Outcome.{Outcome}
 use Rattle.controller.specs.Table.{lowest}
 use Rattle.controller.specs.Calls.{readRows, readMeans, writeRows, writeMeans, tickRows, tickMeans}
 use Rattle.controller.proofs.Refusals.{write-refuses, tick-refuses, judged-ind, judged-pick, write-none, tick-lent}
-use Rattle.timing.proofs.Lent.{frame-lent, ram-inside}
+use Rattle.timing.proofs.Lent.{frame-lent, ram-lent, ram-inside}
 use Rattle.laws.proofs.Bools.{both-left, both-right}
 use Rattle.controller.proofs.Exists.{before-total}
 use Rattle.controller.proofs.Ticks.{idle, going, over}
@@ -35,9 +35,13 @@ use Rattle.timing.specs.Bulk.{doneBy}
 use Rattle.desk.specs.declared.choice.Exposure.{Exposure}
 use Rattle.desk.specs.Choice.{beyond, registersChosen, withRegisters, chooseRows, chooseMeans}
 use Rattle.desk.proofs.Choices.{choose-none, choose-refuses}
-use Rattle.history.specs.History.{Call, reset, read, write, tick, inspect, choose, World, fresh, leftBy, leaves, answers, refusalIn, countIn, after}
-use Rattle.history.specs.Track.{toRam, placeOf, lands, byteIn, Track, atReset, writeAccepted, tickAccepted, choiceAccepted, cyclesOf, runsIn, ends, enabling, selecting, storing, beginning, running, ending, controlled, registered, written, next, follow, told, seen, Told}
+use Rattle.plates.specs.Placing.{isPlate, pixelsOf, placedByte, placedIn, placeRows, placeMeans}
+use Rattle.plates.proofs.Placed.{place-none, place-refuses}
+use Rattle.plates.proofs.Left.{left-length}
+use Rattle.history.specs.History.{Call, reset, read, write, tick, inspect, choose, place, World, fresh, leftBy, leaves, answers, refusalIn, countIn, after}
+use Rattle.history.specs.Track.{toRam, placeOf, inArea, lands, byteIn, Track, atReset, writeAccepted, tickAccepted, choiceAccepted, placeAccepted, cyclesOf, runsIn, ends, enabling, selecting, storing, beginning, running, ending, controlled, registered, written, next, follow, told, seen, Told}
 use Rattle.history.proofs.Picks.{paired, by-test, not-both}
+use Rattle.history.proofs.Area.{area-byte}
 use Rattle.history.proofs.Reachable.{Sound, reset-sound, call-sound}
 
 -- ---- a write
@@ -64,6 +68,18 @@ unfolding leaves chooseMeans
 choose-leaves w light level plain exposure e =
     judged-pick (λ (o : Outcome). record { state = o .state; ram = w .ram; store = w .store }) (lowest (chooseRows (w .state) light level)) _ w (λ k. refl)
     ∙ ap (λ t. pick t (record { state = withRegisters (w .state) (registersChosen (w .state .registers) light level plain exposure); ram = w .ram; store = w .store }) w) (choose-none (w .state) light level e)
+
+-- ---- a placing
+
+abbrev pub withPlaced : World → List ℕ → World
+withPlaced w file = record { state = w .state; ram = placedIn (w .ram) file; store = w .store }
+
+pub place-leaves : (w : World) (file : List ℕ) → cantExist (w .state) ≡ false
+    → leaves w (place file) ≡ pick (ramAllowed (length (w .ram)) && (isPlate file && not (w .state .held))) (withPlaced w file) w
+unfolding leaves placeMeans
+place-leaves w file e =
+    judged-pick (λ (o : Outcome). record { state = o .state; ram = o .ram; store = w .store }) (lowest (placeRows (w .state) (w .ram) file)) _ w (λ k. refl)
+    ∙ ap (λ t. pick t (withPlaced w file) w) (place-none (w .state) (w .ram) file e)
 
 -- a write leaves the RAM's length
 pub ram-length : (c : Controller) (ram : List ℕ) (a v : ℕ) → length (ramWritten c ram a v) ≡ length ram
@@ -344,6 +360,19 @@ module _ (w : World) (im : List ℕ) (own : w .state .held ≡ true → w .store
         rw (choose-leaves w light level plain exposure exists)
         (paired Told (not (beyond light level)) (λ _. record { same = refl; own = own }) (λ _. stays))
 
+    abbrev fits : List ℕ → Bool
+    fits file = ramAllowed (length (w .ram)) && (isPlate file && not (c .held))
+
+    -- where a placing is accepted the RAM is of one bank at least
+    bank-fits : (file : List ℕ) → fits file ≡ true → 8192 ≤ length (w .ram)
+    bank-fits file ok = ram-lent (length (w .ram)) (both-left (ramAllowed (length (w .ram))) _ ok) .least
+
+    place-told : (file : List ℕ) → Told (next (seen w im) (place file)) (leaves w (place file))
+    unfolding next
+    place-told file =
+        rw (place-leaves w file exists)
+        (pick-ind (Told (seen w im)) (fits file) (λ ok. record { same = rw (left-length (w .ram) file (bank-fits file ok)); own = own }) (λ _. stays))
+
     -- what is told after any call is what the world then shows
     call-told : (k : Call) → Told (next (seen w im) k) (leaves w k)
     call-told reset = reset-told
@@ -352,6 +381,7 @@ module _ (w : World) (im : List ℕ) (own : w .state .held ≡ true → w .store
     call-told (tick n) = tick-told n .told
     call-told inspect = inspect-told
     call-told (choose light level plain exposure) = choose-told light level plain exposure
+    call-told (place file) = place-told file
 
     -- the count returned is the count told
     call-count : (k : Call) → countIn (answers w k) ≡ runsIn (seen w im) k
@@ -362,6 +392,7 @@ module _ (w : World) (im : List ℕ) (own : w .state .held ≡ true → w .store
     call-count (tick n) = tick-told n .count
     call-count inspect = refl
     call-count (choose light level plain exposure) = refl
+    call-count (place file) = refl
 
     -- what is told accepted is answered with no refusal
     write-number : (image : List ℕ) (a v : ℕ) → eqb (refusalIn (answers w (write image a v))) 0 ≡ writeAccepted (seen w im) image a
@@ -373,6 +404,10 @@ module _ (w : World) (im : List ℕ) (own : w .state .held ≡ true → w .store
     unfolding answers choiceAccepted
     choose-number light level plain exposure =
         ap (λ (n : ℕ). eqb n 0) (choose-refuses c light level plain exposure .numbered) ∙ choose-none c light level exists
+
+    place-number : (file : List ℕ) → eqb (refusalIn (answers w (place file))) 0 ≡ placeAccepted (seen w im) file
+    unfolding answers placeAccepted
+    place-number file = ap (λ (n : ℕ). eqb n 0) (place-refuses c (w .ram) file .numbered) ∙ place-none c (w .ram) file exists
 
     tick-number : (n : ℕ) → eqb (refusalIn (answers w (tick n))) 0 ≡ tickAccepted (seen w im)
     unfolding answers tickAccepted
@@ -421,15 +456,23 @@ module _ (w : World) (im : List ℕ) (own : w .state .held ≡ true → w .store
         (λ other. rw other (getD-set-other (w .ram) q p v 0 (eqb-false p q other)))))
         (λ none. rw none))
 
+    place-byte : (file : List ℕ) (p : ℕ) → getD (leaves w (place file) .ram) p 0 ≡ pick (fits file && inArea p) (placedByte (pixelsOf file) (p - 0x100)) (getD (w .ram) p 0)
+    place-byte file p =
+        rw (place-leaves w file exists)
+        (by-test (fits file)
+        (λ ok. rw ok (area-byte (w .ram) file (bank-fits file ok) p))
+        (λ bad. rw bad))
+
     -- each byte is one that landed there, or else as the tick's pixels are put
     call-byte : (k : Call) (p : ℕ) → getD (leaves w k .ram) p 0 ≡ pick (lands (seen w im) k p) (byteIn k p) (getD (put k) p 0)
-    unfolding leaves lands runsIn byteIn
+    unfolding leaves lands runsIn byteIn placeAccepted
     call-byte reset p = rw (none-put reset refl)
     call-byte (read rom a) p = ap (λ (u : World). getD (u .ram) p 0) (read-leaves rom a) ∙ rw (none-put (read rom a) refl)
     call-byte (write image a v) p = rw (write-byte image a v p, none-put (write image a v) refl)
     call-byte (tick n) p = ap (λ (r : List ℕ). getD r p 0) (tick-told n .ram)
     call-byte inspect p = rw (none-put inspect refl)
     call-byte (choose light level plain exposure) p = rw (none-put (choose light level plain exposure) refl)
+    call-byte (place file) p = place-byte file p ∙ rw (none-put (place file) refl)
 
     -- and there are as many
     call-size : (k : Call) → length (leaves w k .ram) ≡ length (w .ram)
@@ -441,6 +484,9 @@ module _ (w : World) (im : List ℕ) (own : w .state .held ≡ true → w .store
     call-size (tick n) = rw (tick-told n .ram) (pixels-length (w .store) (c .taken) _ _ (w .ram))
     call-size inspect = refl
     call-size (choose light level plain exposure) = refl
+    call-size (place file) =
+        ap (λ (u : World). length (u .ram)) (place-leaves w file exists)
+        ∙ pick-ind (λ (u : World). length (u .ram) ≡ length (w .ram)) (fits file) (λ ok. left-length (w .ram) file (bank-fits file ok)) (λ _. refl)
 
 -- ---- along a history
 
@@ -518,7 +564,7 @@ module _ (ram store : List ℕ) (cs : List Call) where
   pub count-true : (k : Call) → countIn (answers (after (fresh ram store) cs) k) ≡ runsIn (told ram store cs) k
   count-true k = count-next t w m k
 
-  -- Accepted: the next write, tick or choice is answered with no refusal just where the calls alone tell so
+  -- Accepted: the next write, tick, choice or placing is answered with no refusal just where the calls alone tell so
   pub write-true : (image : List ℕ) (a v : ℕ) → eqb (refusalIn (answers (after (fresh ram store) cs) (write image a v))) 0 ≡ writeAccepted (told ram store cs) image a
   write-true image a v =
       subst (λ (u : Track). eqb (refusalIn (answers w (write image a v))) 0 ≡ writeAccepted u image a) (sym (m .told .same))
@@ -531,3 +577,8 @@ module _ (ram store : List ℕ) (cs : List Call) where
 
   pub choose-true : (light level : ℕ) (plain : Bool) (exposure : Exposure) → eqb (refusalIn (answers (after (fresh ram store) cs) (choose light level plain exposure))) 0 ≡ choiceAccepted light level
   choose-true light level plain exposure = choose-number w (t .image) (m .told .own) (m .sound .exists) light level plain exposure
+
+  pub place-true : (file : List ℕ) → eqb (refusalIn (answers (after (fresh ram store) cs) (place file))) 0 ≡ placeAccepted (told ram store cs) file
+  place-true file =
+      subst (λ (u : Track). eqb (refusalIn (answers w (place file))) 0 ≡ placeAccepted u file) (sym (m .told .same))
+      (place-number w (t .image) (m .told .own) (m .sound .exists) file)

@@ -12,7 +12,7 @@ use Rattle.laws.proofs.Pick.{pick-ind}
 use Rattle.laws.proofs.Bools.{both-left, both-right}
 use Rattle.desk.specs.declared.choice.Exposure.{Exposure}
 use Rattle.desk.specs.Choice.{registersChosen}
-use Rattle.history.specs.History.{Call, reset, read, write, tick, inspect, choose, World, fresh, leaves, answers, countIn, after, counted}
+use Rattle.history.specs.History.{Call, reset, read, write, tick, inspect, choose, place, World, fresh, leaves, answers, countIn, after, counted}
 use Rattle.history.specs.Track.{Track, atReset, writeAccepted, choiceAccepted, cyclesOf, runsIn, ends, toRegisters, starts, imageIn, registersAt, enabling, selecting, storing, beginning, running, ending, controlled, registered, written, next, follow, told}
 use Rattle.history.specs.Since.{isReset, goesOn, Held, Whole}
 use Rattle.history.proofs.Picks.{by-test, not-both}
@@ -45,6 +45,7 @@ start-of t (write image a v) h =
 start-of t (tick n) h = not-both h refl
 start-of t inspect h = not-both h refl
 start-of t (choose light level plain exposure) h = not-both h refl
+start-of t (place file) h = not-both h refl
 
 -- a start runs no cycle
 pub start-count : (t : Track) (k : Call) → starts t k ≡ true → runsIn t k ≡ 0
@@ -55,6 +56,7 @@ start-count t (write image a v) h = refl
 start-count t (tick n) h = not-both h refl
 start-count t inspect h = refl
 start-count t (choose light level plain exposure) h = refl
+start-count t (place file) h = refl
 
 -- ---- a call that does not end it
 
@@ -108,6 +110,7 @@ module _ {image taken : List ℕ} {ran : ℕ} (t : Track) (o : Of image taken ra
   goes-next (tick n) r e = rw e (record { held = o .held; image = o .image; taken = o .taken; ran = ap (λ (x : ℕ). x + runsIn t (tick n)) (o .ran) })
   goes-next inspect r e = more t o
   goes-next (choose light level plain exposure) r e = more (next t (choose light level plain exposure)) (chosen-same light level plain exposure)
+  goes-next (place file) r e = more t o
 
 -- ---- calls through which it goes on
 
@@ -139,6 +142,7 @@ end-count t (write image a v) h = not-both h refl
 end-count t (tick n) h = (both-left (t .held) _ h, eqb-true _ _ (both-right (t .held) _ h))
 end-count t inspect h = not-both h refl
 end-count t (choose light level plain exposure) h = not-both h refl
+end-count t (place file) h = not-both h refl
 
 pub end-next : (t : Track) (k : Call) → ends t k ≡ true → next t k .held ≡ false
 end-next t reset h = unfold ends in not-both h refl
@@ -147,6 +151,7 @@ end-next t (write image a v) h = unfold ends in not-both h refl
 end-next t (tick n) h = unfold next ending in rw h
 end-next t inspect h = unfold ends in not-both h refl
 end-next t (choose light level plain exposure) h = unfold ends in not-both h refl
+end-next t (place file) h = unfold ends in not-both h refl
 
 -- ---- no capture held
 
@@ -198,6 +203,7 @@ was-held t (write image a v) s h = (write-was t image a v s h, refl, unfold ends
 was-held t (tick n) s h = (tick-was t n h .0, refl, tick-was t n h .1)
 was-held t inspect s h = (unfold next in h, refl, unfold ends in refl)
 was-held t (choose light level plain exposure) s h = (choice-was t light level plain exposure h, refl, unfold ends in refl)
+was-held t (place file) s h = (unfold next in h, refl, unfold ends in refl)
 
 -- no cycle runs, and none is held until a start
 pub rests-next : (t : Track) (k : Call) → t .held ≡ false → starts t k ≡ false → (runsIn t k ≡ 0) × (next t k .held ≡ false)
@@ -210,6 +216,7 @@ rests-next t k h s = (still k, by-test (next t k .held) (λ on. not-both (was-he
     still (tick n) = unfold runsIn in simp (h, and-false)
     still inspect = unfold runsIn in refl
     still (choose light level plain exposure) = unfold runsIn in refl
+    still (place file) = unfold runsIn in refl
 
 -- ---- lists of calls
 

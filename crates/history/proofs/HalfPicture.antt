@@ -13,7 +13,8 @@ use Rattle.laws.specs.Bits.{isSet}
 use Rattle.laws.proofs.Order.{split}
 use Rattle.timing.specs.Lent.{ramAllowed}
 use Rattle.timing.specs.Timing.{readingFrom, firstRow}
-use Rattle.tiles.specs.Tiles.{place, shadeIn}
+use Rattle.tiles.specs.Tiles.{shadeIn}
+use Rattle.tiles.specs.Tiles as tiles
 use Rattle.tiles.specs.Picture.{pictureShade}
 use Rattle.tiles.specs.Bulk.{pixels}
 use Rattle.timing.specs.Bulk.{pictureFrom, doneBy}
@@ -23,7 +24,7 @@ use Rattle.controller.proofs.Exists.{neither-left, neither-right}
 use Rattle.tiles.proofs.Run.{pixels-none}
 use Rattle.timing.proofs.Range.{timed, done-mono, done-most, done-low}
 use Rattle.tiles.proofs.Pixels.{pixels-passed, pixels-others}
-use Rattle.history.specs.History.{Call, reset, read, write, tick, inspect, choose, World, fresh, leaves, after, counted}
+use Rattle.history.specs.History.{Call, reset, read, write, tick, inspect, choose, place, World, fresh, leaves, after, counted}
 use Rattle.history.specs.Track.{Track, writeAccepted, runsIn, toRegisters, starts, imageIn, registersAt, toRam, lands, next, told}
 use Rattle.history.specs.Since.{Held, ofPixel, cycleOf, landed, Clear, goesOn}
 use Rattle.history.proofs.Picks.{not-both}
@@ -44,18 +45,19 @@ passed regs j e most =
 same-shade : (r s : List ℕ) (j : ℕ) → ((p : ℕ) → ofPixel j p ≡ true → getD r p 0 ≡ getD s p 0) → shadeIn r (j % 128) (j / 128) ≡ shadeIn s (j % 128) (j / 128)
 unfolding ofPixel shadeIn
 same-shade r s j e =
-    let q = place (j % 128) (j / 128) in
+    let q = tiles.place (j % 128) (j / 128) in
     rw (e q (rw (eq-eqb q q refl)), e (q + 1) (rw (eq-eqb (q + 1) (q + 1) refl) (or-true (eqb (q + 1) q))))
 
--- over a RAM of one bank at least
-starts-long : (t : Track) (k : Call) → starts t k ≡ true → 8192 ≤ t .ramSize
+-- a start is over a RAM of a size allowed
+starts-allowed : (t : Track) (k : Call) → starts t k ≡ true → ramAllowed (t .ramSize) ≡ true
 unfolding starts toRegisters writeAccepted
-starts-long t reset h = not-both h refl
-starts-long t (read rom a) h = not-both h refl
-starts-long t (write image a v) h = ram-lent (t .ramSize) (both-left (ramAllowed (t .ramSize)) _ (both-left _ _ (both-left _ _ h))) .least
-starts-long t (tick n) h = not-both h refl
-starts-long t inspect h = not-both h refl
-starts-long t (choose light level plain exposure) h = not-both h refl
+starts-allowed t reset h = not-both h refl
+starts-allowed t (read rom a) h = not-both h refl
+starts-allowed t (write image a v) h = both-left (ramAllowed (t .ramSize)) _ (both-left _ _ (both-left _ _ h))
+starts-allowed t (tick n) h = not-both h refl
+starts-allowed t inspect h = not-both h refl
+starts-allowed t (choose light level plain exposure) h = not-both h refl
+starts-allowed t (place file) h = not-both h refl
 
 module _ (image regs old : List ℕ) (j : ℕ) (most : j < 14336) where
   abbrev fresh-shade : ℕ
@@ -142,16 +144,20 @@ starts-lands t (write image a v) p h =
 starts-lands t (tick n) p h = refl
 starts-lands t inspect p h = refl
 starts-lands t (choose light level plain exposure) p h = refl
+starts-lands t (place file) p h = not-both h refl
 
 start-byte : (t : Track) (w : World) (m : Moment t w) (k : Call) (p : ℕ) → starts t k ≡ true → getD (leaves w k .ram) p 0 ≡ getD (w .ram) p 0
 start-byte t w m k p h =
     byte-next t w m k p ∙ rw (starts-lands t k p h, start-count t k h, add-zero (t .ran), pixels-none (w .store) (t .taken) (doneBy (t .taken) (t .ran)) (w .ram))
 
--- it is over a RAM of one bank at least
-pub long-ram : (ram store : List ℕ) (before : List Call) (start : Call) → starts (told ram store before) start ≡ true → 8192 ≤ length ram
-long-ram ram store before start h =
+-- it is over a RAM of a size allowed, of one bank at least
+pub allowed-ram : (ram store : List ℕ) (before : List Call) (start : Call) → starts (told ram store before) start ≡ true → ramAllowed (length ram) ≡ true
+allowed-ram ram store before start h =
     let m = moment-after before _ _ (at-reset ram store) in
-    rw (← same-size ram store before, ram-size (told ram store before) (after (fresh ram store) before) m start) (starts-long (told ram store before) start h)
+    rw (← same-size ram store before, ram-size (told ram store before) (after (fresh ram store) before) m start) (starts-allowed (told ram store before) start h)
+
+pub long-ram : (ram store : List ℕ) (before : List Call) (start : Call) → starts (told ram store before) start ≡ true → 8192 ≤ length ram
+long-ram ram store before start h = ram-lent (length ram) (allowed-ram ram store before start h) .least
 
 module _ (ram store : List ℕ) (before : List Call) (start : Call) (between : List Call) (h : Held (told ram store before) start between) (j : ℕ) (most : j < 14336) (c : Clear (ofPixel j) (next (told ram store before) start) between) where
   abbrev t₀ : Track

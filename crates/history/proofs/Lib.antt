@@ -1,5 +1,6 @@
 -- Theorems on histories.
 pub mod Picks
+pub mod Area
 pub mod Exists
 pub mod Reachable
 pub mod Follows

@@ -10,8 +10,8 @@ use Rattle.laws.specs.Pick.{pick}
 use Rattle.timing.proofs.Range.{done-most}
 use Rattle.tiles.proofs.Pixels.{pixels-outside}
 use Rattle.history.specs.History.{Call, World, fresh, leaves, after}
-use Rattle.history.specs.Track.{Track, atReset, lands, byteIn, next}
-use Rattle.history.specs.Since.{inArea, lastIn}
+use Rattle.history.specs.Track.{Track, atReset, inArea, lands, byteIn, next}
+use Rattle.history.specs.Since.{lastIn}
 use Rattle.history.proofs.Picks.{not-both}
 use Rattle.history.proofs.Follows.{Moment, at-reset, moment-next, byte-next, size-next}
 

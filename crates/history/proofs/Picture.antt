@@ -2,7 +2,7 @@
 use mathlib.Core.Path.{_≡_, refl, sym, ap, _∙_}
 use mathlib.Core.Bool.{true, false, not}
 use mathlib.Core.List.{List, [], _∷_, _++_}
-use Prim.Native.Nat.{ℕ, _+_, _*_, _/_, _%_, _<_, _≤_}
+use Prim.Native.Nat.{ℕ, _+_, _-_, _*_, _/_, _%_, _<_, _≤_}
 use native.Mathlib.Nat.{add-zero}
 use native.Mathlib.Omega.{arith}
 use lib.Dec.{eqb}
@@ -11,7 +11,8 @@ use lib.Seq.{getD-take, getD-drop, ext-getD}
 use borrow.Author.Tests.{eqb-true, ltb-true, lt-ltb, le-leb, not-true}
 use Rattle.laws.proofs.Pick.{pick-ind}
 use Rattle.timing.specs.Lent.{ramAllowed}
-use Rattle.tiles.specs.Tiles.{place, shadeIn, areaOf, Bytes}
+use Rattle.tiles.specs.Tiles.{shadeIn, areaOf, Bytes}
+use Rattle.tiles.specs.Tiles as tiles
 use Rattle.tiles.specs.Picture.{pictureShade, pictureOf}
 use Rattle.timing.specs.Bulk.{doneBy}
 use Rattle.timing.proofs.Lent.{ram-lent}
@@ -21,11 +22,13 @@ use Rattle.timing.proofs.Range.{done-all, done-most}
 use Rattle.tiles.proofs.Pixels.{pixels-bytes}
 use Rattle.tiles.proofs.Area.{area-whole}
 use Rattle.plates.specs.Grey.{plateOf, plateAfresh}
+use Rattle.plates.specs.Placing.{pixelsOf}
 use Rattle.plates.proofs.Same.{afresh-plate}
-use Rattle.history.specs.History.{Call, reset, read, write, tick, inspect, choose, World, fresh, leaves, after, counted}
-use Rattle.history.specs.Track.{Track, tickAccepted, runsIn, starts, ends, imageIn, registersAt, lands, byteIn, next, told}
-use Rattle.history.specs.Since.{Whole, inArea, ofPixel, Clear, noStart, writesByte, bytesIn}
+use Rattle.history.specs.History.{Call, reset, read, write, tick, inspect, choose, place, World, fresh, leaves, after, counted}
+use Rattle.history.specs.Track.{Track, tickAccepted, runsIn, starts, ends, imageIn, registersAt, inArea, lands, byteIn, next, told}
+use Rattle.history.specs.Since.{Whole, ofPixel, Clear, noStart, writesByte, bytesIn}
 use Rattle.history.proofs.Picks.{by-test, not-both}
+use Rattle.history.proofs.Area.{area-small}
 use Rattle.history.proofs.Follows.{Moment, at-reset, moment-next, moment-after, put-next, byte-next, cycles-total}
 use Rattle.history.proofs.Outside.{ram-size, size-after, same-size}
 use Rattle.history.proofs.Goes.{Of, rests-next, end-count, on, same-world, now-last, world-last, moment-last, whole-world}
@@ -42,6 +45,7 @@ byte-small (write image a v) p h = ltb-true v 256 h
 byte-small (tick n) p h = omega arith
 byte-small inspect p h = omega arith
 byte-small (choose light level plain exposure) p h = omega arith
+byte-small (place file) p h = area-small (pixelsOf file) (p - 0x100)
 
 -- a RAM that is not allowed runs no cycle
 short-runs : (t : Track) (k : Call) → ramAllowed (t .ramSize) ≡ false → runsIn t k ≡ 0
@@ -52,6 +56,7 @@ short-runs t (write image a v) h = refl
 short-runs t (tick n) h = rw h
 short-runs t inspect h = refl
 short-runs t (choose light level plain exposure) h = refl
+short-runs t (place file) h = refl
 
 put-bytes : (t : Track) (w : World) (m : Moment t w) (k : Call) → Bytes (w .ram) → Bytes (put-next t w m k)
 put-bytes t w m k b =
@@ -75,7 +80,7 @@ bytes-after (k ∷ cs) t w m s b =
 within : (j p : ℕ) → j < 14336 → ofPixel j p ≡ true → inArea p ≡ true
 unfolding ofPixel inArea
 within j p most h =
-    let q = place (j % 128) (j / 128) in
+    let q = tiles.place (j % 128) (j / 128) in
     by-test (eqb p q)
     (λ here. let e : p ≡ q = eqb-true p q here in rw (le-leb 0x100 p (omega arith)) (le-leb p 0xEFF (omega arith)))
     (λ other. let e : p ≡ q + 1 = eqb-true p (q + 1) (rw other at h) in rw (le-leb 0x100 p (omega arith)) (le-leb p 0xEFF (omega arith)))
@@ -91,6 +96,7 @@ ends-lands t (write image a v) p h = not-both h refl
 ends-lands t (tick n) p h = refl
 ends-lands t inspect p h = refl
 ends-lands t (choose light level plain exposure) p h = refl
+ends-lands t (place file) p h = not-both h refl
 
 module _ (ram store : List ℕ) (before : List Call) (start : Call) (between : List Call) (last : Call) (h : Whole (told ram store before) start between last) where
   abbrev t₀ : Track
@@ -175,7 +181,7 @@ stays-next : (t : Track) (w : World) (m : Moment t w) (k : Call) (p : ℕ) → r
 stays-next t w m k p still out =
     byte-next t w m k p ∙ rw (out, still, add-zero (t .ran), pixels-none (w .store) (t .taken) (doneBy (t .taken) (t .ran)) (w .ram))
 
-stays-through : (cs : List Call) (t : Track) (w : World) → Moment t w → t .held ≡ false → noStart t cs ≡ true → Clear inArea t cs
+pub stays-through : (cs : List Call) (t : Track) (w : World) → Moment t w → t .held ≡ false → noStart t cs ≡ true → Clear inArea t cs
     → (p : ℕ) → inArea p ≡ true → getD (after w cs .ram) p 0 ≡ getD (w .ram) p 0
 unfolding after
 stays-through [] t w m h s c p here = refl
@@ -186,7 +192,7 @@ stays-through (k ∷ cs) t w m h s c p here =
     stays-through cs (next t k) (leaves w k) (moment-next t w m k) (r .1) (f .1) (g .1) p here ∙ stays-next t w m k p (r .0) (g .0 p here)
 
 -- two RAMs of a length with the same bytes there have the same area
-area-same : (r s : List ℕ) → length r ≡ length s → ((p : ℕ) → inArea p ≡ true → getD r p 0 ≡ getD s p 0) → areaOf r ≡ areaOf s
+pub area-same : (r s : List ℕ) → length r ≡ length s → ((p : ℕ) → inArea p ≡ true → getD r p 0 ≡ getD s p 0) → areaOf r ≡ areaOf s
 unfolding inArea
 area-same r s l e =
     ext-getD 0 (areaOf r) (areaOf s) (simp (length-take, length-drop, l))

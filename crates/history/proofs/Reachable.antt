@@ -25,7 +25,9 @@ use Rattle.desk.specs.declared.choice.Exposure.{Exposure}
 use Rattle.desk.specs.Choice.{registersChosen, withRegisters, chooseRows, chooseMeans}
 use Rattle.desk.proofs.Choices.{choose-refuses}
 use Rattle.desk.proofs.Level.{chosen-length, chosen-exists}
-use Rattle.history.specs.History.{Call, reset, read, write, tick, inspect, choose, World, fresh, leaves, answers, refusalIn, after}
+use Rattle.plates.specs.Placing.{placeRows, placeMeans}
+use Rattle.plates.proofs.Placed.{place-refuses}
+use Rattle.history.specs.History.{Call, reset, read, write, tick, inspect, choose, place, World, fresh, leaves, answers, refusalIn, after}
 use Rattle.history.proofs.Exists.{exists-reset, exists-enabled, exists-bank, exists-select, exists-register, exists-stored, exists-begun}
 
 -- a state that can exist, with its 54 registers
@@ -106,7 +108,7 @@ Of o = Sound (o .state)
 
 -- a call
 pub call-sound : (w : World) (c : Call) → Sound (w .state) → Sound (leaves w c .state)
-unfolding leaves readMeans writeMeans tickMeans chooseMeans
+unfolding leaves readMeans writeMeans tickMeans chooseMeans placeMeans
 call-sound w reset s = reset-sound
 call-sound w (read rom a) s = judged-ind Of (lowest (readRows (w .state) rom (w .ram) a)) (λ k. s) s
 call-sound w (write image a v) s =
@@ -116,6 +118,7 @@ call-sound w (tick n) s =
 call-sound w inspect s = s
 call-sound w (choose light level plain exposure) s =
     judged-ind Of (lowest (chooseRows (w .state) light level)) (λ k. s) (chosen-sound (w .state) light level plain exposure s)
+call-sound w (place file) s = judged-ind Of (lowest (placeRows (w .state) (w .ram) file)) (λ k. s) s
 
 -- a list of calls
 pub calls-sound : (cs : List Call) (w : World) → Sound (w .state) → Sound (after w cs .state)
@@ -134,13 +137,14 @@ reachable ram store cs = sound ram store cs .exists
 
 -- a state that can exist is not refused
 other-number : (w : World) (c : Call) → cantExist (w .state) ≡ false → refusalIn (answers w c) ≡ 1 → ⊥
-unfolding answers readRows writeRows tickRows inspectRows chooseRows rowHolds
+unfolding answers readRows writeRows tickRows inspectRows chooseRows placeRows rowHolds
 other-number w reset e = λ z. omega arith
 other-number w (read rom a) e = not-one (read-refuses (w .state) rom (w .ram) a) (simp e)
 other-number w (write image a v) e = not-one (write-refuses (w .state) (w .ram) (w .store) image a v) (simp e)
 other-number w (tick n) e = not-one (tick-refuses (w .state) (w .ram) (w .store) n) (simp e)
 other-number w inspect e = not-one (inspect-refuses (w .state)) (simp e)
 other-number w (choose light level plain exposure) e = not-one (choose-refuses (w .state) light level plain exposure) (simp e)
+other-number w (place file) e = not-one (place-refuses (w .state) (w .ram) file) (simp e)
 
 -- Never impossible: from reset, whatever was called before, no call answers refusal 1
 pub never-impossible : (ram store : List ℕ) (cs : List Call) (c : Call) → refusalIn (answers (after (fresh ram store) cs) c) ≡ 1 → ⊥

@@ -17,8 +17,8 @@ use Rattle.tiles.specs.Tiles.{shadeIn, areaOf, Bytes}
 use Rattle.tiles.specs.Picture.{pictureShade, pictureOf}
 use Rattle.controller.specs.Bus.{onCartridge}
 use Rattle.history.specs.History.{Call, reset, read, write, tick, inspect, fresh, after, counted}
-use Rattle.history.specs.Track.{atReset, writeAccepted, tickAccepted, cyclesOf, runsIn, ends, toRegisters, starts, imageIn, registersAt, toRam, placeOf, lands, byteIn, enabling, selecting, storing, beginning, running, ending, controlled, registered, written, next, follow, told}
-use Rattle.history.specs.Since.{isReset, goesOn, Held, Whole, inArea, ofPixel, cycleOf, landed, Clear, lastIn, writesByte, bytesIn}
+use Rattle.history.specs.Track.{atReset, writeAccepted, tickAccepted, cyclesOf, runsIn, ends, toRegisters, starts, imageIn, registersAt, toRam, placeOf, inArea, lands, byteIn, enabling, selecting, storing, beginning, running, ending, controlled, registered, written, next, follow, told}
+use Rattle.history.specs.Since.{isReset, goesOn, Held, Whole, ofPixel, cycleOf, landed, Clear, lastIn, writesByte, bytesIn}
 use Rattle.history.specs.Counts.{tally, startsTold, endsTold}
 use Rattle.history.proofs.Counts.{Counts, started-counts, ended-counts}
 use Rattle.history.proofs.Outside.{outside}

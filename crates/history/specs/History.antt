@@ -9,9 +9,10 @@ use Rattle.controller.specs.Calls.{readMeans, writeMeans, tickMeans}
 use Rattle.controller.specs.Inspect.{inspectMeans}
 use Rattle.desk.specs.declared.choice.Exposure.{Exposure}
 use Rattle.desk.specs.Choice.{chooseMeans}
+use Rattle.plates.specs.Placing.{placeMeans}
 
 -- a call: a reset; a read with the ROM lent and an address; a write with the image lent, an address and a byte; a tick of so many cycles; an inspection;
--- a choice at the desk of a light set, a level, dithering off or not, and an exposure
+-- a choice at the desk of a light set, a level, dithering off or not, and an exposure; a placing with the file lent
 pub data Call : Type 0 where
   reset : Call
   read : (rom : List ℕ) (address : ℕ) → Call
@@ -19,6 +20,7 @@ pub data Call : Type 0 where
   tick : (cycles : ℕ) → Call
   inspect : Call
   choose : (light level : ℕ) (plain : Bool) (exposure : Exposure) → Call
+  place : (file : List ℕ) → Call
 
 -- what a call finds and leaves: the state, and the RAM and frame store that are lent to every call
 pub record World : Type 0 where
@@ -33,8 +35,8 @@ fresh ram store = record { state = resetState; ram = ram; store = store }
 abbrev pub leftBy : Outcome → World
 leftBy o = record { state = o .state; ram = o .ram; store = o .store }
 
--- what a call leaves: what its meaning says. A read is not lent the frame store, and an inspection only looks; a choice is
--- lent neither RAM nor frame store
+-- what a call leaves: what its meaning says. A read is not lent the frame store, nor is a placing, and an inspection only looks; a
+-- choice is lent neither RAM nor frame store
 unfoldable pub leaves : World → Call → World
 leaves w reset = fresh (w .ram) (w .store)
 leaves w (read rom a) = record {
@@ -48,6 +50,11 @@ leaves w inspect = w
 leaves w (choose light level plain exposure) = record {
   state = chooseMeans (w .state) light level plain exposure .state;
   ram = w .ram;
+  store = w .store;
+}
+leaves w (place file) = record {
+  state = placeMeans (w .state) (w .ram) file .state;
+  ram = placeMeans (w .state) (w .ram) file .ram;
   store = w .store;
 }
 
@@ -69,6 +76,7 @@ answers w (write image a v) = done (writeMeans (w .state) (w .ram) (w .store) im
 answers w (tick n) = ran (tickMeans (w .state) (w .ram) (w .store) n .number) (tickMeans (w .state) (w .ram) (w .store) n .value)
 answers w inspect = matrix (inspectMeans (w .state))
 answers w (choose light level plain exposure) = done (chooseMeans (w .state) light level plain exposure .number)
+answers w (place file) = done (placeMeans (w .state) (w .ram) file .number)
 
 -- its refusal number
 abbrev pub refusalIn : Answer → ℕ

@@ -3,11 +3,11 @@ use mathlib.Core.Path.{_≡_}
 use mathlib.Core.Bool.{Bool, true, false, not, _&&_, _||_}
 use mathlib.Core.List.{List, [], _∷_, _++_}
 use Prim.Native.Nat.{ℕ, _+_, _-_, _*_, _/_, _%_}
-use lib.Dec.{eqb, leb, ltb}
+use lib.Dec.{eqb, ltb}
 use Rattle.laws.specs.Pick.{pick}
 use Rattle.timing.specs.Timing.{readingFrom, firstRow}
-use Rattle.tiles.specs.Tiles.{place}
-use Rattle.history.specs.History.{Call, reset, read, write, tick, inspect, choose, World}
+use Rattle.tiles.specs.Tiles as tiles
+use Rattle.history.specs.History.{Call, reset, read, write, tick, inspect, choose, place, World}
 use Rattle.history.specs.Track.{Track, next, follow, told, starts, ends, lands, byteIn}
 
 -- whether a call is a reset
@@ -18,6 +18,7 @@ isReset (write image a v) = false
 isReset (tick n) = false
 isReset inspect = false
 isReset (choose light level plain exposure) = false
+isReset (place file) = false
 
 -- the capture held goes on through these calls: none is a reset, and in none it reaches its end
 unfoldable pub goesOn : Track → List Call → Bool
@@ -49,13 +50,9 @@ pub record Own (frame regs : List ℕ) (cycles : ℕ) (w : World) : Type 0 where
   pub taken : w .state .taken ≡ regs
   pub elapsed : w .state .elapsed .0 ≡ cycles
 
--- the picture area: RAM bank 0, 0100h to 0EFFh
-unfoldable pub inArea : ℕ → Bool
-inArea p = leb 0x100 p && leb p 0xEFF
-
 -- the two bytes of pixel j of the picture, row by row
 unfoldable pub ofPixel : ℕ → ℕ → Bool
-ofPixel j p = eqb p (place (j % 128) (j / 128)) || eqb p (place (j % 128) (j / 128) + 1)
+ofPixel j p = eqb p (tiles.place (j % 128) (j / 128)) || eqb p (tiles.place (j % 128) (j / 128) + 1)
 
 -- the cycle on which pixel j of the picture falls: the one that first makes elapsed/2 equal S + k + 1, where picture row 0 is sensor row 8
 unfoldable pub cycleOf : List ℕ → ℕ → ℕ
@@ -80,7 +77,7 @@ unfoldable pub lastIn : ℕ → Track → List Call → ℕ → ℕ
 lastIn p t [] first = first
 lastIn p t (c ∷ cs) first = lastIn p (next t c) cs (pick (lands t c p) (byteIn c p) first)
 
--- what a call writes is a byte
+-- what a call writes is a byte; of a placing it always is
 unfoldable pub writesByte : Call → Bool
 writesByte reset = true
 writesByte (read rom a) = true
@@ -88,6 +85,7 @@ writesByte (write image a v) = ltb v 256
 writesByte (tick n) = true
 writesByte inspect = true
 writesByte (choose light level plain exposure) = true
+writesByte (place file) = true
 
 -- what these calls write are bytes
 unfoldable pub bytesIn : List Call → Bool

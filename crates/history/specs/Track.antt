@@ -3,7 +3,7 @@ use mathlib.Core.Path.{_≡_}
 use mathlib.Core.Bool.{Bool, true, false, not, _&&_}
 use mathlib.Core.List.{List, [], _∷_}
 use Prim.Native.Nat.{ℕ, _+_, _-_, _*_, _/_, _%_, min}
-use lib.Dec.{eqb, ltb}
+use lib.Dec.{eqb, leb, ltb}
 use lib.ListN.{length, getD, set}
 use Rattle.laws.specs.Pick.{pick}
 use Rattle.laws.specs.Bits.{isSet}
@@ -11,7 +11,8 @@ use Rattle.timing.specs.Lent.{ramAllowed, frameAllowed}
 use Rattle.controller.specs.State.{started, noRegisters}
 use Rattle.controller.specs.Bus.{onCartridge}
 use Rattle.desk.specs.Choice.{beyond, registersChosen}
-use Rattle.history.specs.History.{Call, reset, read, write, tick, inspect, choose, World}
+use Rattle.plates.specs.Placing.{isPlate, pixelsOf, placedByte}
+use Rattle.history.specs.History.{Call, reset, read, write, tick, inspect, choose, place, World}
 
 -- the sizes lent; RAM writing enabled, select and registers, as the writes left them; whether a capture is held, and of that capture
 -- the image lent and the registers at its start, and the running cycles since
@@ -53,6 +54,10 @@ tickAccepted t = ramAllowed (t .ramSize) && frameAllowed (t .storeSize)
 unfoldable pub choiceAccepted : ℕ → ℕ → Bool
 choiceAccepted light level = not (beyond light level)
 
+-- a placing where RAM is, the file is of the kind that is exported and no capture is held
+unfoldable pub placeAccepted : Track → List ℕ → Bool
+placeAccepted t file = ramAllowed (t .ramSize) && (isPlate file && not (t .held))
+
 -- Total cycles = 32,446 + (N set: 0, clear: 512) + 16 × exposure; exposure = A002 × 256 + A003, N is bit 7 of A001
 unfoldable pub cyclesOf : List ℕ → ℕ
 cyclesOf regs = 32446 + pick (isSet (getD regs 1 0) 7) 0 512 + 16 * (getD regs 2 0 * 256 + getD regs 3 0)
@@ -65,6 +70,7 @@ runsIn t (write image a v) = 0
 runsIn t (tick n) = pick (tickAccepted t && (t .held && started (t .registers))) (min n (cyclesOf (t .taken) - t .ran)) 0
 runsIn t inspect = 0
 runsIn t (choose light level plain exposure) = 0
+runsIn t (place file) = 0
 
 -- a capture reaches its own end in a call: with that call's cycles it has run its total
 unfoldable pub ends : Track → Call → Bool
@@ -74,6 +80,7 @@ ends t (write image a v) = false
 ends t (tick n) = t .held && eqb (t .ran + runsIn t (tick n)) (cyclesOf (t .taken))
 ends t inspect = false
 ends t (choose light level plain exposure) = false
+ends t (place file) = false
 
 -- a write goes to the registers: A000-BFFF with bit 4 of select set
 unfoldable pub toRegisters : Track → List ℕ → ℕ → Bool
@@ -87,6 +94,7 @@ starts t (write image a v) = toRegisters t image a && (eqb (a % 128) 0 && (eqb (
 starts t (tick n) = false
 starts t inspect = false
 starts t (choose light level plain exposure) = false
+starts t (place file) = false
 
 -- the image lent to a call
 unfoldable pub imageIn : Call → List ℕ
@@ -96,6 +104,7 @@ imageIn (write image a v) = image
 imageIn (tick n) = []
 imageIn inspect = []
 imageIn (choose light level plain exposure) = []
+imageIn (place file) = []
 
 -- the registers at a start: registers 1 to 53, and the new register 0
 unfoldable pub registersAt : Track → Call → List ℕ
@@ -105,6 +114,7 @@ registersAt t (write image a v) = set (t .registers) 0 (v % 8)
 registersAt t (tick n) = []
 registersAt t inspect = []
 registersAt t (choose light level plain exposure) = []
+registersAt t (place file) = []
 
 -- a write goes to the RAM: A000-BFFF with bit 4 of select clear, register 0 has bit 0 clear, RAM writing is enabled
 unfoldable pub toRam : Track → List ℕ → ℕ → Bool
@@ -115,7 +125,11 @@ toRam t image a =
 unfoldable pub placeOf : Track → ℕ → ℕ
 placeOf t a = t .select % 16 % (t .ramSize / 8192) * 8192 + a % 8192
 
--- a bus write of a call lands in this place of the RAM
+-- the picture area: RAM bank 0, 0100h to 0EFFh
+unfoldable pub inArea : ℕ → Bool
+inArea p = leb 0x100 p && leb p 0xEFF
+
+-- a bus write of a call lands in this place of the RAM; a placing counts as bus writes that landed all over the area
 unfoldable pub lands : Track → Call → ℕ → Bool
 lands t reset p = false
 lands t (read rom a) p = false
@@ -123,6 +137,7 @@ lands t (write image a v) p = toRam t image a && eqb p (placeOf t a)
 lands t (tick n) p = false
 lands t inspect p = false
 lands t (choose light level plain exposure) p = false
+lands t (place file) p = placeAccepted t file && inArea p
 
 -- and which byte it brings there
 unfoldable pub byteIn : Call → ℕ → ℕ
@@ -132,6 +147,7 @@ byteIn (write image a v) p = v
 byteIn (tick n) p = 0
 byteIn inspect p = 0
 byteIn (choose light level plain exposure) p = 0
+byteIn (place file) p = placedByte (pixelsOf file) (p - 0x100)
 
 -- what is told, with one thing changed
 unfoldable pub enabling : Track → Bool → Track
@@ -230,7 +246,8 @@ registered t image i v =
 unfoldable pub written : Track → List ℕ → ℕ → ℕ → Track
 written t image a v = pick (ltb a 0x8000) (controlled t a v) (pick (isSet (t .select) 4) (registered t image (a % 128) v) t)
 
--- what is told after one call more; a refused call changes nothing. A choice stores the registers that it writes, and no more
+-- what is told after one call more; a refused call changes nothing. A choice stores the registers that it writes, and no more; a
+-- placing changes none of this
 unfoldable pub next : Track → Call → Track
 next t reset = atReset (t .ramSize) (t .storeSize)
 next t (read rom a) = t
@@ -239,6 +256,7 @@ next t (tick n) = pick (ends t (tick n)) (ending t) (running t (t .ran + runsIn 
 next t inspect = t
 next t (choose light level plain exposure) =
     pick (choiceAccepted light level) (storing t (registersChosen (t .registers) light level plain exposure)) t
+next t (place file) = t
 
 -- and after a list of calls, the first call first
 unfoldable pub follow : Track → List Call → Track
