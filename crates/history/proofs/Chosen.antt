@@ -20,7 +20,7 @@ use Rattle.desk.proofs.Choices.{choose-none, choose-refuses}
 use Rattle.desk.proofs.Level.{exists-with, level-after}
 use Rattle.history.specs.History.{Call, write, inspect, choose, World, fresh, leaves, answers, matrix, after}
 use Rattle.history.specs.Track.{Track, choiceAccepted, starts, ends, lands, registersAt, storing, next, told}
-use Rattle.history.specs.Writes.{registerWrites, choiceWrites}
+use Rattle.history.specs.Writes.{writesFrom, choiceWrites}
 use Rattle.history.proofs.Exists.{exists-select, exists-register}
 use Rattle.history.proofs.Follows.{write-leaves, choose-leaves}
 use Rattle.history.proofs.Goes.{after-append}
@@ -74,12 +74,12 @@ pub record Lends (w : World) (image : List ℕ) : Type 0 where
   pub image-fits : frameAllowed (length image) ≡ true
 
 module _ (w : World) (image : List ℕ) (fits : Lends w image) where
-  abbrev with-state : Controller → World
+  abbrev pub with-state : Controller → World
   with-state c = record { state = c; ram = w .ram; store = w .store }
 
   module _ (c : Controller) (exists : cantExist c ≡ false) where
     -- a write of select
-    select-leaves : (v : ℕ) → leaves (with-state c) (write image 0x4000 v) ≡ with-state (withSelect c (v % 32))
+    pub select-leaves : (v : ℕ) → leaves (with-state c) (write image 0x4000 v) ≡ with-state (withSelect c (v % 32))
     unfolding onCartridge byteWritten controlWritten
     select-leaves v = write-leaves (with-state c) image 0x4000 v exists ∙ rw (fits .ram-fits, fits .store-fits, fits .image-fits)
 
@@ -102,11 +102,11 @@ module _ (w : World) (image : List ℕ) (fits : Lends w image) where
 
     -- writes of the registers from one on
     registers-leave : c .select ≡ 16 → (from : ℕ) (f : ℕ → ℕ) (n : ℕ) → 0 < from → from + n ≤ 54
-        → after (with-state c) (registerWrites image from f n) ≡ with-state (withRegisters c (stored (c .registers) from f n))
-    unfolding after registerWrites stored withRegisters
+        → after (with-state c) (writesFrom image from f n) ≡ with-state (withRegisters c (stored (c .registers) from f n))
+    unfolding after writesFrom stored withRegisters
     registers-leave on from f zero low high = refl
     registers-leave on from f (suc n) low high =
-        after-append (registerWrites image from f n) _ (with-state c)
+        after-append (writesFrom image from f n) _ (with-state c)
         ∙ ap (λ (u : World). leaves u (write image (0xA000 + (from + n)) (f n))) (registers-leave on from f n low (omega arith))
         ∙ register-more on (stored (c .registers) from f n) (stored-before (c .registers) from f n 0 low) (from + n) (f n) (omega arith) (omega arith)
 
@@ -118,7 +118,7 @@ module _ (w : World) (image : List ℕ) (fits : Lends w image) where
       let c = w .state in
       let n = stepsOf exposure in
       let back : List Call = write image 0x4000 (c .select) ∷ [] in
-      let matrix : List Call = registerWrites image 6 (valueOf light level plain) 48 ++ back in
+      let matrix : List Call = writesFrom image 6 (valueOf light level plain) 48 ++ back in
       let low : List Call = write image 0xA003 (n % 256) ∷ matrix in
       let high : List Call = write image 0xA002 (n / 256) ∷ low in
       let c₁ : Controller = withSelect c 16 in
@@ -134,7 +134,7 @@ module _ (w : World) (image : List ℕ) (fits : Lends w image) where
       ap (λ (u : World). after u high) (select-leaves c e 0x10)
       ∙ ap (λ (u : World). after u low) (register-leaves c₁ e₁ refl 2 (n / 256) (omega arith) (omega arith))
       ∙ ap (λ (u : World). after u matrix) (register-leaves c₂ e₂ refl 3 (n % 256) (omega arith) (omega arith))
-      ∙ after-append (registerWrites image 6 (valueOf light level plain) 48) back (with-state c₃)
+      ∙ after-append (writesFrom image 6 (valueOf light level plain) 48) back (with-state c₃)
       ∙ ap (λ (u : World). after u back) (registers-leave c₃ e₃ refl 6 (valueOf light level plain) 48 (omega arith) (omega arith))
       ∙ select-leaves c₄ e₄ (c .select)
       ∙ ap (λ (x : ℕ). with-state (withSelect c₄ x)) s

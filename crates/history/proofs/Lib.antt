@@ -13,3 +13,4 @@ pub mod HalfPicture
 pub mod Picture
 pub mod Worked
 pub mod Chosen
+pub mod Placed
