@@ -19,11 +19,12 @@ use Rattle.controller.specs.Calls.{readRows, readMeans}
 use Rattle.controller.proofs.Refusals.{judged-ind}
 use Rattle.desk.specs.declared.choice.Exposure.{Exposure}
 use Rattle.desk.specs.Choice.{beyond, withRegisters}
-use Rattle.history.specs.History.{Call, reset, read, write, tick, inspect, choose, World, fresh, leaves, after}
+use Rattle.plates.specs.Placing.{isPlate}
+use Rattle.history.specs.History.{Call, reset, read, write, tick, inspect, choose, place, World, fresh, leaves, after}
 use Rattle.history.specs.Track.{Track, atReset, writeAccepted, toRegisters, ends, starts, next, seen}
 use Rattle.history.specs.Since.{isReset}
 use Rattle.history.specs.Counts.{tally, startsTold, endsTold}
-use Rattle.history.proofs.Follows.{worldOf, write-leaves, choose-leaves, tick-told, Moment, at-reset, moment-next}
+use Rattle.history.proofs.Follows.{worldOf, write-leaves, choose-leaves, place-leaves, tick-told, Moment, at-reset, moment-next}
 
 -- a state's two counts
 pub record Counts (s e : ℕ) (c : Controller) : Type 0 where
@@ -84,6 +85,10 @@ module _ (w : World) (im : List ℕ) (own : w .state .held ≡ true → w .store
       rw (choose-leaves w light level plain exposure exists)
       (pick-ind (λ (u : World). Same (u .state)) (not (beyond light level)) (λ _. record { started = refl; ended = refl }) (λ _. same))
 
+  place-next : (file : List ℕ) → Next (place file)
+  unfolding isReset starts ends
+  place-next file = rw (place-leaves w file exists) (pick-ind (λ (u : World). Same (u .state)) (ramAllowed (length (w .ram)) && (isPlate file && not (c .held))) (λ _. same) (λ _. same))
+
   -- each call
   call-counts : (k : Call) → Next k
   unfolding isReset starts ends leaves readMeans resetState
@@ -93,6 +98,7 @@ module _ (w : World) (im : List ℕ) (own : w .state .held ≡ true → w .store
   call-counts (tick n) = let t = tick-told w im own exists n in record { started = t .starts-kept; ended = t .ends-told }
   call-counts inspect = same
   call-counts (choose light level plain exposure) = choose-next light level plain exposure
+  call-counts (place file) = place-next file
 
 pub counts-next : (t : Track) (w : World) → Moment t w → (k : Call)
     → Counts (upTo (isReset k) (starts t k) (w .state .started)) (upTo (isReset k) (ends t k) (w .state .ended)) (leaves w k .state)

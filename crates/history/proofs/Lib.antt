@@ -11,6 +11,6 @@ pub mod Cycles
 pub mod OwnFrame
 pub mod HalfPicture
 pub mod Picture
-pub mod Worked
 pub mod Chosen
 pub mod Placed
+pub mod Worked

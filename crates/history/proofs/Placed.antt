@@ -7,10 +7,10 @@ use native.Mathlib.Nat.{zero-add, zero-mod}
 use native.Mathlib.Omega.{arith}
 use lib.ListN.{length, getD, set}
 use lib.Seq.{getD-set-other, ext-getD}
-use borrow.Author.Tests.{lt-ltb, le-ltb, le-leb, lt-leb, ltb-false}
+use borrow.Author.Tests.{lt-ltb, le-ltb, le-leb, lt-leb, ltb-false, not-true}
 use Rattle.laws.specs.Pick.{pick}
 use Rattle.laws.proofs.Order.{split}
-use Rattle.laws.proofs.Bools.{not-fails}
+use Rattle.laws.proofs.Bools.{both-left, both-right, not-fails}
 use Rattle.controller.specs.declared.Controller.{Controller}
 use Rattle.timing.specs.Lent.{ramAllowed, frameAllowed}
 use Rattle.controller.specs.State.{started, cantExist}
@@ -19,22 +19,24 @@ use Rattle.controller.specs.Bus.{onCartridge, byteWritten, controlWritten, ramW
 use Rattle.controller.proofs.Exists.{exists-parts}
 use Rattle.timing.proofs.Lent.{ram-lent}
 use Rattle.controller.proofs.Written.{written-ram}
+use Rattle.tiles.specs.Tiles.{areaOf}
 use Rattle.desk.specs.Choice.{stored}
 use Rattle.desk.proofs.Registers.{stored-length, stored-before, stored-at}
-use Rattle.plates.specs.Placing.{isPlate, pixelsOf, placedByte, placedIn, placeRows}
+use Rattle.plates.specs.Placing.{isPlate, pixelsOf, placedByte, placedArea, placedIn, placeRows}
 use Rattle.plates.proofs.Placed.{place-fits, place-refuses}
-use Rattle.plates.proofs.Left.{left-length}
+use Rattle.plates.proofs.Left.{left-length, left-area}
 use Rattle.history.specs.History.{Call, write, place, World, fresh, leaves, answers, refusalIn, after}
 use Rattle.history.specs.Track.{Track, placeAccepted, runsIn, starts, ends, inArea, lands, next, follow, told}
-use Rattle.history.specs.Since.{Held}
+use Rattle.history.specs.Since.{Held, Clear, noStart}
 use Rattle.history.specs.Writes.{writesFrom, placeWrites}
 use Rattle.history.proofs.Picks.{not-both}
 use Rattle.history.proofs.Area.{area-byte}
 use Rattle.history.proofs.Exists.{exists-enabled, exists-select}
-use Rattle.history.proofs.Follows.{write-leaves, place-leaves, withPlaced, told-true}
+use Rattle.history.proofs.Follows.{Moment, at-reset, moment-next, moment-after, write-leaves, place-leaves, withPlaced, told-true}
 use Rattle.history.proofs.Goes.{after-append, world-now, moment-now, on, same-world}
 use Rattle.history.proofs.HalfPicture.{allowed-ram}
-use Rattle.history.proofs.Outside.{same-size}
+use Rattle.history.proofs.Picture.{stays-through, area-same}
+use Rattle.history.proofs.Outside.{ram-size, size-after, same-size}
 use Rattle.history.proofs.Chosen.{Lends, with-state, select-leaves}
 use Rattle.history.proofs.Reachable.{reachable}
 
@@ -57,6 +59,27 @@ placing-leaves ram store cs file =
     let w : World = after (fresh ram store) cs in
     subst (λ (t : Track). leaves w (place file) ≡ pick (ramAllowed (t .ramSize) && (isPlate file && not (t .held))) (withPlaced w file) w) (sym (told-true ram store cs .same))
     (place-leaves w file (reachable ram store cs))
+
+-- Placed stays: through any calls after it, with no start and none that landed in the area, the area's 3,584 bytes are the file's
+pub placed-stays : (ram store : List ℕ) (cs : List Call) (file : List ℕ) (later : List Call)
+    → placeAccepted (told ram store cs) file ≡ true
+    → noStart (told ram store cs) later ≡ true
+    → Clear inArea (told ram store cs) later
+    → areaOf (after (leaves (after (fresh ram store) cs) (place file)) later .ram) ≡ placedArea (pixelsOf file)
+unfolding placeAccepted next
+placed-stays ram store cs file later ok s q =
+    let t = told ram store cs in
+    let w : World = after (fresh ram store) cs in
+    let w′ : World = leaves w (place file) in
+    let m = moment-after cs _ _ (at-reset ram store) in
+    let m′ : Moment t w′ = moment-next t w m (place file) in
+    let free : (isPlate file && not (t .held)) ≡ true = both-right (ramAllowed (t .ramSize)) _ ok in
+    let off : t .held ≡ false = not-true (t .held) (both-right (isPlate file) (not (t .held)) free) in
+    let long : 8192 ≤ length (w .ram) = rw (ram-size t w m (place file)) (ram-lent (t .ramSize) (both-left (ramAllowed (t .ramSize)) _ ok) .least) in
+    let placed : w′ ≡ withPlaced w file = placing-leaves ram store cs file ∙ rw ok in
+    area-same (after w′ later .ram) (w′ .ram) (size-after later t w′ m′) (stays-through later t w′ m′ off s q)
+    ∙ ap (λ (u : World). areaOf (u .ram)) placed
+    ∙ left-area (w .ram) file long
 
 -- ---- while a capture is held
 

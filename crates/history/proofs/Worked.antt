@@ -1,4 +1,4 @@
--- Worked histories: calls that meet all premises of `cycles`, `picture`, `half-picture` and `outside`, and that are counted, so that nobody doubts that they can be met. Assumes nothing.
+-- Worked histories: calls that meet all premises of `cycles`, `picture`, `half-picture`, `outside`, `placed-stays` and `kept-out`, and that are counted, so that nobody doubts that they can be met. Assumes nothing.
 use mathlib.Core.Path.{_≡_, refl, sym, ap, _∙_}
 use mathlib.Core.Bool.{true, false}
 use mathlib.Core.List.{List, [], _∷_, _++_}
@@ -16,9 +16,11 @@ use Rattle.timing.specs.Timing.{readingFrom, firstRow}
 use Rattle.tiles.specs.Tiles.{shadeIn, areaOf, Bytes}
 use Rattle.tiles.specs.Picture.{pictureShade, pictureOf}
 use Rattle.controller.specs.Bus.{onCartridge}
-use Rattle.history.specs.History.{Call, reset, read, write, tick, inspect, fresh, after, counted}
-use Rattle.history.specs.Track.{atReset, writeAccepted, tickAccepted, cyclesOf, runsIn, ends, toRegisters, starts, imageIn, registersAt, toRam, placeOf, inArea, lands, byteIn, enabling, selecting, storing, beginning, running, ending, controlled, registered, written, next, follow, told}
-use Rattle.history.specs.Since.{isReset, goesOn, Held, Whole, ofPixel, cycleOf, landed, Clear, lastIn, writesByte, bytesIn}
+use Rattle.plates.specs.Grey.{plateOf}
+use Rattle.plates.proofs.RoundTrip.{out-in, plate-is}
+use Rattle.history.specs.History.{Call, reset, read, write, tick, inspect, place, fresh, after, counted}
+use Rattle.history.specs.Track.{atReset, writeAccepted, tickAccepted, placeAccepted, cyclesOf, runsIn, ends, toRegisters, starts, imageIn, registersAt, toRam, placeOf, inArea, lands, byteIn, enabling, selecting, storing, beginning, running, ending, controlled, registered, written, next, follow, told}
+use Rattle.history.specs.Since.{isReset, goesOn, Held, Whole, ofPixel, cycleOf, landed, Clear, noStart, lastIn, writesByte, bytesIn}
 use Rattle.history.specs.Counts.{tally, startsTold, endsTold}
 use Rattle.history.proofs.Counts.{Counts, started-counts, ended-counts}
 use Rattle.history.proofs.Outside.{outside}
@@ -26,6 +28,7 @@ use Rattle.history.proofs.Goes.{on}
 use Rattle.history.proofs.Cycles.{cycles}
 use Rattle.history.proofs.Picture.{picture}
 use Rattle.history.proofs.HalfPicture.{half-picture}
+use Rattle.history.proofs.Placed.{placed-stays, KeptOut, kept-out}
 
 -- one bank of RAM, all FF; a frame store; two images
 abbrev pub ram : List ℕ
@@ -40,17 +43,27 @@ image = replicate 16384 0x80
 abbrev pub other : List ℕ
 other = replicate 16384 0x40
 
--- the registers are selected; exposure 0010h
+-- the file of a white plate
+abbrev pub white : List ℕ
+white = replicate 8192 0x00
+
+abbrev pub file : List ℕ
+file = plateOf white
+
+-- it is placed; the registers are selected; exposure 0010h
+abbrev pub set-up : List Call
+set-up = write image 0x4000 0x10 ∷ write image 0xA003 0x10 ∷ []
+
 abbrev pub before : List Call
-before = write image 0x4000 0x10 ∷ write image 0xA003 0x10 ∷ []
+before = place file ∷ set-up
 
 -- the start: 03 to register 0
 abbrev pub start : Call
 start = write image 0xA000 0x03
 
--- it runs 3,000 cycles, is stopped, and stands still
+-- it runs 3,000 cycles, is stopped, and stands still; a placing is refused
 abbrev pub stopped : List Call
-stopped = tick 3000 ∷ write other 0xA000 0x02 ∷ tick 500 ∷ []
+stopped = tick 3000 ∷ write other 0xA000 0x02 ∷ tick 500 ∷ place file ∷ []
 
 -- another exposure is written; RAM bank 5, of one bank, is selected and RAM writing enabled; a byte lands beside the area; a read, an
 -- inspection and a write that is refused; it is resumed
@@ -90,6 +103,10 @@ pub record Premises : Type 0 where
   pub held : Held (told ram store before) start stopped
   pub unwritten : (j : ℕ) → Clear (ofPixel j) (next (told ram store before) start) stopped
   pub ran : follow (next (told ram store before) start) stopped .ran ≡ 3000
+  -- the placing before the start is accepted, and until the start its bytes stay
+  pub accepted : placeAccepted (atReset (length ram) (length store)) file ≡ true
+  pub waits : noStart (atReset (length ram) (length store)) set-up ≡ true
+  pub alone : Clear inArea (atReset (length ram) (length store)) set-up
   -- one write landed, at 1000h
   pub landed : (first : ℕ) → lastIn 0x1000 (atReset (length ram) (length store)) calls first ≡ 0x5A
   -- one start and one end; with a start more two and one; with a reset more none
@@ -103,26 +120,33 @@ unfolding inArea
 beside p here = ne-eqb p 0x1000 (λ e. omega (arith, leb-true p 0xEFF (both-right (leb 0x100 p) (leb p 0xEFF) here)))
 
 pub premises : Premises
-unfolding registersAt starts toRegisters writeAccepted tickAccepted banksAllowed ones onesIn onCartridge follow next atReset written registered controlled enabling selecting storing beginning running ending ends runsIn cyclesOf goesOn isReset landed inArea toRam placeOf lands byteIn writesByte bytesIn lastIn tally
+unfolding registersAt starts toRegisters writeAccepted tickAccepted banksAllowed ones onesIn onCartridge follow next atReset written registered controlled enabling selecting storing beginning running ending ends runsIn cyclesOf goesOn isReset landed inArea toRam placeOf lands byteIn writesByte bytesIn lastIn noStart placeAccepted tally
 premises = record {
   regs-at-start = refl;
   whole = record { held = record { begins = refl; goes = refl }; over = refl };
-  untouched = λ p here. rw (beside p here);
+  untouched = λ p here. rw (plate-is white, beside p here);
   bytes = refl;
   held = record { begins = refl; goes = refl };
-  unwritten = λ j p here. refl;
+  unwritten = λ j p here. rw (plate-is white);
   ran = refl;
+  accepted = rw (plate-is white);
+  waits = refl;
+  alone = λ p here. refl;
   landed = λ first. refl;
   told-once = (refl, refl);
   told-again = (refl, refl);
   told-reset = (refl, refl);
 }
 
-pub ram-bytes : Bytes ram
-ram-bytes i =
+-- a RAM all of one byte
+all-bytes : (v : ℕ) → v < 256 → Bytes (replicate 8192 v)
+all-bytes v small i =
     split i 8192
-    (λ l. rw (getD-replicate {A = ℕ} 8192 i 0xFF 0 l) (omega arith))
-    (λ l. rw (List·getD-eq-default ram 0 {n = i} (rw (length-replicate {A = ℕ} 8192 0xFF) l)) (omega arith))
+    (λ l. rw (getD-replicate {A = ℕ} 8192 i v 0 l) small)
+    (λ l. rw (List·getD-eq-default (replicate 8192 v) 0 {n = i} (rw (length-replicate {A = ℕ} 8192 v) l)) (omega arith))
+
+pub ram-bytes : Bytes ram
+ram-bytes = all-bytes 0xFF (omega arith)
 
 -- Worked cycles: 32,446 + 512 + 16 × 16 are counted, though 500 cycles stood still and more were given than were left
 pub worked-cycles : counted (after (fresh ram store) before) (start ∷ (between ++ (last ∷ []))) ≡ 33214
@@ -154,6 +178,17 @@ worked-again = of-calls (calls ++ (start ∷ [])) 2 1 (premises .told-again)
 
 pub worked-reset : Counts 0 0 (after (fresh ram store) (calls ++ (reset ∷ [])) .state)
 worked-reset = of-calls (calls ++ (reset ∷ [])) 0 0 (premises .told-reset)
+
+-- Worked placing: at the start the area is the white plate's, though RAM writing was not enabled
+pub worked-placed : areaOf (after (fresh ram store) before .ram) ≡ areaOf white
+unfolding after follow
+worked-placed =
+    placed-stays ram store [] file set-up (premises .accepted) (premises .waits) (premises .alone)
+    ∙ out-in white (omega (arith, length-replicate {A = ℕ} 8192 0x00)) (all-bytes 0x00 (omega arith))
+
+-- and at the stop another is refused with number 10, and changes nothing
+pub worked-refused : KeptOut (follow (next (told ram store before) start) stopped) (after (fresh ram store) (before ++ (start ∷ stopped))) file
+worked-refused = kept-out ram store before start stopped file (premises .held)
 
 ran-so-far : counted (after (fresh ram store) before) (start ∷ stopped) ≡ 3000
 ran-so-far = sym (on ram store before start stopped (premises .held) .ran) ∙ premises .ran
