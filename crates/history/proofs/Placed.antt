@@ -25,7 +25,7 @@ use Rattle.desk.proofs.Registers.{stored-length, stored-before, stored-at}
 use Rattle.plates.specs.Placing.{isPlate, pixelsOf, placedByte, placedArea, placedIn, placeRows}
 use Rattle.plates.proofs.Placed.{place-fits, place-refuses}
 use Rattle.plates.proofs.Left.{left-length, left-area}
-use Rattle.history.specs.History.{Call, write, place, World, fresh, leaves, answers, refusalIn, after}
+use Rattle.history.specs.History.{Call, reset, read, write, tick, inspect, choose, place, World, fresh, leaves, answers, refusalIn, after}
 use Rattle.history.specs.Track.{Track, placeAccepted, runsIn, starts, ends, inArea, lands, next, follow, told}
 use Rattle.history.specs.Since.{Held, Clear, noStart}
 use Rattle.history.specs.Writes.{writesFrom, placeWrites}
@@ -101,8 +101,7 @@ module _ (w : World) (file : List ℕ) (exists : cantExist (w .state) ≡ false)
   held-leaves : leaves w (place file) ≡ w
   held-leaves = place-leaves w file exists ∙ rw (fits, held, and-false (isPlate file))
 
--- Kept out: any calls, a start, any calls through which its capture goes on: a placing then is kept out. So of all calls between a start
--- and the end of its capture only writes can land, and `cycles`, `picture` and `half-picture` hold with placings among them
+-- Kept out: any calls, a start, any calls through which its capture goes on: a placing then is kept out
 pub kept-out : (ram store : List ℕ) (before : List Call) (start : Call) (between : List Call) (file : List ℕ)
     → Held (told ram store before) start between
     → KeptOut (follow (next (told ram store before) start) between) (after (fresh ram store) (before ++ (start ∷ between))) file
@@ -120,6 +119,24 @@ kept-out ram store before start between file h =
       nowhere = λ p. simp (o .held, and-false);
       unchanged = held-leaves w file exists fits held-now;
     }
+
+-- a call is a write
+pub record Wrote (k : Call) : Type 0 where
+  pub image : List ℕ
+  pub address : ℕ
+  pub byte : ℕ
+  pub is : k ≡ write image address byte
+
+-- Only writes: what lands while a capture is held is a write, so placings between a start and its end break no premise of `picture` or `half-picture`
+pub only-writes : (t : Track) (k : Call) (p : ℕ) → t .held ≡ true → lands t k p ≡ true → Wrote k
+unfolding lands placeAccepted
+only-writes t reset p h l = not-both l refl
+only-writes t (read rom a) p h l = not-both l refl
+only-writes t (write image a v) p h l = record { image = image; address = a; byte = v; is = refl }
+only-writes t (tick n) p h l = not-both l refl
+only-writes t inspect p h l = not-both l refl
+only-writes t (choose light level plain exposure) p h l = not-both l refl
+only-writes t (place file) p h l = not-both l (simp (h, and-false))
 
 -- ---- as bus writes
 

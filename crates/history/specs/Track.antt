@@ -54,7 +54,7 @@ tickAccepted t = ramAllowed (t .ramSize) && frameAllowed (t .storeSize)
 unfoldable pub choiceAccepted : ℕ → ℕ → Bool
 choiceAccepted light level = not (beyond light level)
 
--- a placing where RAM is, the file is of the kind that is exported and no capture is held
+-- a placing where RAM is of a size allowed, the file is of the kind that is exported and no capture is held
 unfoldable pub placeAccepted : Track → List ℕ → Bool
 placeAccepted t file = ramAllowed (t .ramSize) && (isPlate file && not (t .held))
 
