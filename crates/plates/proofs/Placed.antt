@@ -1,4 +1,4 @@
--- A plate placed in the area: when it is refused, and what it leaves. Assumes nothing.
+-- A plate placed in the area: when it is refused, that no second outcome fits, and the bytes that are put, two a turn. Assumes nothing.
 use mathlib.Core.Path.{_≡_, refl, sym, ap, ap₂, _∙_}
 use mathlib.Core.Bool.{Bool, true, false, not, _&&_}
 use mathlib.Core.List.{List, [], _∷_}
@@ -59,7 +59,7 @@ place-none c ram file e = rw e (by-tests (ramAllowed (length ram)) (isPlate file
     by-tests true true false = refl
     by-tests true true true = refl
 
--- write enable, ROM bank and select make no difference: what a placing comes to turns on whether the state can exist and a capture is held
+-- of the state, the number and the RAM turn on whether it can exist and whether a capture is held, and on nothing else: not on write enable
 pub place-same : (c d : Controller) (ram file : List ℕ) → cantExist c ≡ cantExist d → c .held ≡ d .held → (placeMeans c ram file .number ≡ placeMeans d ram file .number) × (placeMeans c ram file .ram ≡ placeMeans d ram file .ram)
 unfolding placeRows placeMeans
 place-same c d ram file e h =
