@@ -6,7 +6,7 @@ use Prim.Native.Nat.{ℕ, zero, suc}
 use native.Mathlib.Omega.{arith}
 use Rattle.timing.specs.declared.Cycles.{Cycles}
 use Rattle.controller.specs.declared.Refusal.{Refusal}
-use Rattle.controller.specs.declared.Refusal.the-variants.{State, Rom, Ram, Frame, Address, Line, Room, File, Choice, Held, NotHeld}
+use Rattle.controller.specs.declared.Refusal.the-variants.{State, Rom, Ram, Frame, Address, Line, Room, File, Choice, Held, NotHeld, Script}
 use Rattle.controller.specs.declared.ReadAnswer.{ReadAnswer}
 use Rattle.controller.specs.declared.ReadAnswer.the-variants as reads
 use Rattle.controller.specs.declared.WriteAnswer.{WriteAnswer}
@@ -33,7 +33,8 @@ refusalOf (suc (suc (suc (suc (suc (suc (suc zero))))))) = Room
 refusalOf (suc (suc (suc (suc (suc (suc (suc (suc zero)))))))) = File
 refusalOf (suc (suc (suc (suc (suc (suc (suc (suc (suc zero))))))))) = Choice
 refusalOf (suc (suc (suc (suc (suc (suc (suc (suc (suc (suc zero)))))))))) = Held
-refusalOf (suc (suc (suc (suc (suc (suc (suc (suc (suc (suc (suc n))))))))))) = NotHeld
+refusalOf (suc (suc (suc (suc (suc (suc (suc (suc (suc (suc (suc zero))))))))))) = NotHeld
+refusalOf (suc (suc (suc (suc (suc (suc (suc (suc (suc (suc (suc (suc n)))))))))))) = Script
 
 back : (r : Refusal) → refusalOf (numberOf r) ≡ r
 unfolding refusalOf
@@ -48,6 +49,7 @@ back File = refl
 back Choice = refl
 back Held = refl
 back NotHeld = refl
+back Script = refl
 
 pub only-number : (r s : Refusal) → numberOf r ≡ numberOf s → r ≡ s
 only-number r s e = sym (back r) ∙ ap refusalOf e ∙ back s
@@ -65,6 +67,7 @@ some-number File e = omega arith
 some-number Choice e = omega arith
 some-number Held e = omega arith
 some-number NotHeld e = omega arith
+some-number Script e = omega arith
 
 read-answer : (a b : ReadAnswer) → readNumber a ≡ readNumber b → readValue a ≡ readValue b → a ≡ b
 read-answer (reads.Byte x) (reads.Byte y) n v = ap reads.Byte v

@@ -4,7 +4,7 @@ use mathlib.Core.List.{List, []}
 use Prim.Native.Nat.{ℕ}
 use Rattle.controller.specs.declared.Controller.{Controller}
 use Rattle.controller.specs.declared.Refusal.{Refusal}
-use Rattle.controller.specs.declared.Refusal.the-variants.{State, Rom, Ram, Frame, Address, Line, Room, File, Choice, Held, NotHeld}
+use Rattle.controller.specs.declared.Refusal.the-variants.{State, Rom, Ram, Frame, Address, Line, Room, File, Choice, Held, NotHeld, Script}
 use Rattle.controller.specs.declared.Verdict.{Verdict}
 use Rattle.controller.specs.declared.Verdict.the-variants as verdicts
 use Rattle.controller.specs.declared.ReadAnswer.{ReadAnswer}
@@ -19,7 +19,7 @@ use Rattle.controller.specs.declared.ReadDone.{ReadDone}
 use Rattle.controller.specs.declared.WriteDone.{WriteDone}
 use Rattle.controller.specs.declared.TickDone.{TickDone}
 
--- The numbers of the table: 1 the state record can't exist, 2 ROM length, 3 RAM length, 4 image or frame store, 5 address, 6 a script line, 7 a buffer lent is too short, 8 a file, 9 a choice, 10 a capture is held, 11 no capture is held
+-- The numbers of the table: 1 the state record can't exist, 2 ROM length, 3 RAM length, 4 image or frame store, 5 address, 6 a script line, 7 a buffer lent is too short, 8 a file, 9 a choice, 10 a capture is held, 11 no capture is held, 12 a script over 32,768 bytes
 abbrev pub numberOf : Refusal → ℕ
 numberOf State = 1
 numberOf Rom = 2
@@ -32,6 +32,7 @@ numberOf File = 8
 numberOf Choice = 9
 numberOf Held = 10
 numberOf NotHeld = 11
+numberOf Script = 12
 
 -- what judging a call comes to, as a number: 0 where it fits
 abbrev pub verdictNumber : Verdict → ℕ

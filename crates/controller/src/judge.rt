@@ -28,6 +28,7 @@ impl Refusal {
             Refusal::Choice => 9,
             Refusal::Held => 10,
             Refusal::NotHeld => 11,
+            Refusal::Script => 12,
         }
     }
 }

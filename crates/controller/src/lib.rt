@@ -35,6 +35,7 @@ pub enum Refusal {
     Choice,
     Held,
     NotHeld,
+    Script,
 }
 
 // What judging a call comes to.
