@@ -1,0 +1,5 @@
+-- Lemmas that the proofs share.
+pub mod Walks
+pub mod Turns
+pub mod Puts
+pub mod Outcomes
