@@ -3,3 +3,4 @@ pub mod Walks
 pub mod Turns
 pub mod Puts
 pub mod Outcomes
+pub mod Cleaned

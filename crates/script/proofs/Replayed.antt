@@ -33,16 +33,16 @@ use Rattle.script.specs.Recording.{Call, callLines, recordingOf, rowLent
 no-end : (b : ℕ) → isHex b ≡ true → eqb b 0x0A ≡ false
 no-end b h = either (eqb b 0x0A) (λ t. absurd (clash (sym (ap isHex (eqb-true b 0x0A t)) ∙ h))) (λ f. f)
 
-abbrev Endless : List ℕ → Type 0
+abbrev pub Endless : List ℕ → Type 0
 Endless line = (i : ℕ) → i < length line → eqb (getD line i 0) 0x0A ≡ false
 
-endless : (line : List ℕ) → hexPart line 0 (length line) ≡ true → Endless line
+pub endless : (line : List ℕ) → hexPart line 0 (length line) ≡ true → Endless line
 unfolding hexPart
 endless line h i l =
     let d = second-half true _ (hex-within line (length line) i 1 h (omega arith)) in
     no-end (getD line i 0) (ap (λ k. isHex (getD line k 0)) (sym (add-zero i)) ∙ d)
 
-line-ends : (line rest : List ℕ) → Endless line → linesOf (ended line ++ rest) ≡ line ∷ linesOf rest
+pub line-ends : (line rest : List ℕ) → Endless line → linesOf (ended line ++ rest) ≡ line ∷ linesOf rest
 unfolding linesOf
 line-ends [] rest h = refl
 line-ends (b ∷ line) rest h = simp (h 0 (omega arith)) (ap (begins b) (line-ends line rest (λ i l. h (suc i) (omega arith))))
