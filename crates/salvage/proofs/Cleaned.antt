@@ -70,18 +70,18 @@ kept-within lines =
 -- ---- every line accepted
 
 pub data Good : List (List ℕ) → Type 0 where
-  none : Good []
-  more : (line : List ℕ) {lines : List (List ℕ)} → accepted line ≡ true → Good lines → Good (line ∷ lines)
+  nothing : Good []
+  also : (line : List ℕ) {lines : List (List ℕ)} → accepted line ≡ true → Good lines → Good (line ∷ lines)
 
 good-accepted : (lines : List (List ℕ)) → Good (acceptedOf lines)
 unfolding acceptedOf
-good-accepted [] = none
-good-accepted (line ∷ lines) = either (accepted line) (λ t. simp t (more line t (good-accepted lines))) (λ f. simp f (good-accepted lines))
+good-accepted [] = nothing
+good-accepted (line ∷ lines) = either (accepted line) (λ t. simp t (also line t (good-accepted lines))) (λ f. simp f (good-accepted lines))
 
 good-first : (n : ℕ) {lines : List (List ℕ)} → Good lines → Good (take n lines)
-good-first zero g = none
-good-first (suc n) none = none
-good-first (suc n) (more line t g) = more line t (good-first n g)
+good-first zero g = nothing
+good-first (suc n) nothing = nothing
+good-first (suc n) (also line t g) = also line t (good-first n g)
 
 -- every kept line is accepted
 pub good-kept : (lines : List (List ℕ)) → Good (salvaged lines)
@@ -91,8 +91,8 @@ good-kept lines =
 
 good-all : {lines : List (List ℕ)} → Good lines → acceptedOf lines ≡ lines
 unfolding acceptedOf
-good-all none = refl
-good-all (more line t g) = simp t (ap (λ r. line ∷ r) (good-all g))
+good-all nothing = refl
+good-all (also line t g) = simp t (ap (λ r. line ∷ r) (good-all g))
 
 -- an accepted line is all digits
 digits : (line : List ℕ) → accepted line ≡ true → hexPart line 0 (length line) ≡ true
@@ -102,8 +102,8 @@ digits line t = either (hexPart line 0 (length line)) (λ h. h) (λ h. absurd (n
 -- the text made of accepted lines has exactly these lines
 good-lines : {lines : List (List ℕ)} → Good lines → linesOf (textOf lines) ≡ lines
 unfolding textOf linesOf
-good-lines none = refl
-good-lines (more line {lines} t g) = line-ends line (textOf lines) (endless line (digits line t)) ∙ ap (λ r. line ∷ r) (good-lines g)
+good-lines nothing = refl
+good-lines (also line {lines} t g) = line-ends line (textOf lines) (endless line (digits line t)) ∙ ap (λ r. line ∷ r) (good-lines g)
 
 -- ---- once more
 
@@ -131,8 +131,8 @@ cleaned-again script =
 
 good-marks : {lines : List (List ℕ)} → Good lines → marks (length lines) lines ≡ replicate (length lines) 0
 unfolding marks markOf leftAfter
-good-marks none = refl
-good-marks (more line {lines} t g) =
+good-marks nothing = refl
+good-marks (also line {lines} t g) =
     let e : suc (length lines) - 1 ≡ length lines = omega arith in
     simp t (ap (λ r. 0 ∷ r) (ap (λ n. marks n lines) e ∙ good-marks g))
 

@@ -4,3 +4,4 @@ pub mod Turns
 pub mod Puts
 pub mod Outcomes
 pub mod Cleaned
+pub mod Played
