@@ -5,13 +5,13 @@ use mathlib.Core.List.{List, [], _∷_, _++_}
 use Prim.Native.Nat.{ℕ, zero, suc, _+_, _-_, _/_, _<_, _≤_}
 use native.Mathlib.Omega.{arith}
 use lib.Dec.{eqb}
-use lib.ListN.{length, take, replicate, length-take}
+use lib.ListN.{length, take, replicate, length-append}
 use lib.Seq.{take-take, take-length, length-take-le}
 use borrow.Author.Tests.{eqb-true}
 use Rattle.laws.specs.Pick.{pick}
 use Rattle.laws.specs.Iter.{iter-keeps}
 use Rattle.laws.proofs.Bools.{either}
-use Rattle.laws.proofs.Pick.{never}
+use Rattle.laws.proofs.Pick.{pick-ind, never}
 use Rattle.lines.specs.Line.{hexPart, frameOf}
 use Rattle.lines.specs.Record.{ended}
 use Rattle.lines.proofs.Frames.{bad}
@@ -175,3 +175,68 @@ lines-text (b ∷ (c ∷ rest)) =
 pub as-it-is : (script : List ℕ) → Good (linesOf script) → doubled (linesOf script) ≡ false → cleaned script ≡ withEnd script
 unfolding cleaned
 as-it-is script g f = ap textOf (all-kept g f) ∙ lines-text script
+
+-- ---- how long the result and the report are
+
+within-text : {a b : List (List ℕ)} → Within a b → length (textOf a) ≤ length (textOf b)
+unfolding textOf
+within-text none = omega arith
+within-text (kept {a} {b} line w) = omega (arith, length-append (ended line) (textOf a), length-append (ended line) (textOf b), within-text w)
+within-text (dropped {a} {b} line w) = omega (arith, length-append (ended line) (textOf b), within-text w)
+
+end-longer : (t : List ℕ) → length (withEnd t) ≤ length t + 1
+unfolding withEnd
+end-longer [] = omega arith
+end-longer (b ∷ []) = pick-ind (λ (t : List ℕ). length t ≤ 2) (eqb b 0x0A) (λ e. omega arith) (λ e. omega arith)
+end-longer (b ∷ (c ∷ rest)) = omega (arith, end-longer (c ∷ rest))
+
+-- nothing is added but the LF of a last line
+pub cleaned-long : (script : List ℕ) → length (cleaned script) ≤ length script + 1
+unfolding cleaned
+cleaned-long script =
+    omega (arith, within-text (kept-within (linesOf script)), within-text (accepted-within (linesOf script)), ap length (lines-text script), end-longer script)
+
+-- there are no more lines than bytes
+begun-lines : (b : ℕ) (lines : List (List ℕ)) → length (begins b lines) ≤ suc (length lines)
+begun-lines b [] = omega arith
+begun-lines b (line ∷ lines) = omega arith
+
+pub lines-few : (t : List ℕ) → length (linesOf t) ≤ length t
+unfolding linesOf
+lines-few [] = omega arith
+lines-few (b ∷ rest) =
+    pick-ind (λ (l : List (List ℕ)). length l ≤ suc (length rest)) (eqb b 0x0A) (λ e. omega (arith, lines-few rest)) (λ e. omega (arith, begun-lines b (linesOf rest), lines-few rest))
+
+marks-long : (n : ℕ) (lines : List (List ℕ)) → length (marks n lines) ≡ length lines
+unfolding marks
+marks-long n [] = refl
+marks-long n (line ∷ lines) = ap suc (marks-long (leftAfter (accepted line) n) lines)
+
+-- one byte for each line
+pub report-long : (lines : List (List ℕ)) → length (reportOf lines) ≡ length lines
+unfolding reportOf
+report-long lines = marks-long (length (salvaged lines)) lines
+
+-- ---- the lines that are reported as kept
+
+-- the lines whose byte is m
+unfoldable pub marked : ℕ → List (List ℕ) → List ℕ → List (List ℕ)
+marked m [] bytes = []
+marked m (line ∷ lines) [] = []
+marked m (line ∷ lines) (b ∷ bytes) = pick (eqb b m) (line ∷ marked m lines bytes) (marked m lines bytes)
+
+marked-kept : (n : ℕ) (lines : List (List ℕ)) → marked 0 lines (marks n lines) ≡ take n (acceptedOf lines)
+unfolding marked marks markOf leftAfter acceptedOf
+marked-kept zero [] = refl
+marked-kept (suc n) [] = refl
+marked-kept zero (line ∷ lines) = either (accepted line) (λ t. simp t (marked-kept zero lines)) (λ f. simp f (marked-kept zero lines))
+marked-kept (suc n) (line ∷ lines) =
+    let e : suc n - 1 ≡ n = omega arith in
+    either (accepted line)
+    (λ t. simp t (ap (λ r. line ∷ r) (ap (λ k. marked 0 lines (marks k lines)) e ∙ marked-kept n lines)))
+    (λ f. simp f (marked-kept (suc n) lines))
+
+-- the lines that are reported as kept are the lines that are kept
+pub report-keeps : (lines : List (List ℕ)) → marked 0 lines (reportOf lines) ≡ salvaged lines
+unfolding reportOf salvaged
+report-keeps lines = marked-kept (length (salvaged lines)) lines ∙ sym (first-kept (acceptedOf lines))

@@ -5,3 +5,4 @@ pub mod Puts
 pub mod Outcomes
 pub mod Cleaned
 pub mod Played
+pub mod Again

@@ -1,13 +1,14 @@
 -- A salvage: when it is refused, and that no second outcome fits. Assumes nothing.
 use mathlib.Core.Path.{_≡_, refl, sym, ap, _∙_}
-use mathlib.Core.Logic.{_↔_}
-use mathlib.Core.Bool.{true, false}
+use mathlib.Core.Logic.{_↔_, _⊎_, inl, inr, ⊎-elim}
+use mathlib.Core.Bool.{Bool, true, false}
 use mathlib.Core.List.{List}
 use Prim.Native.Nat.{ℕ, _<_, _≤_}
 use native.Mathlib.Omega.{arith}
 use lib.Dec.{ltb}
 use lib.ListN.{length}
-use borrow.Author.Tests.{lt-ltb, le-ltb, ltb-false}
+use borrow.Author.Tests.{lt-ltb, le-ltb, ltb-true, ltb-false}
+use Rattle.laws.specs.Pick.{pick}
 use Rattle.laws.proofs.Order.{split}
 use Rattle.laws.proofs.Pick.{never}
 use Rattle.controller.specs.Table.{noRoom, before, lowest, judged}
@@ -20,6 +21,16 @@ use Rattle.salvage.specs.Salvage.{cleaned, roomRows, salvageRows, Salvag
 
 abbrev pub inSalvaging : Salvaging → ℕ
 inSalvaging o = o .number
+
+-- which of two rows of one number holds
+one-of : (a b : Bool) → _≡_ {A = ℕ} (pick a 7 (pick b 7 0)) 7 → (a ≡ true) ⊎ (b ≡ true)
+one-of true b e = inl refl
+one-of false true e = inr refl
+one-of false false e = absurd (omega arith)
+
+either-one : (a : Bool) → _≡_ {A = ℕ} (pick a 7 7) 7
+either-one true = refl
+either-one false = refl
 
 module _ (script text report : List ℕ) where
   long-rows : 32768 < length script → lowest (salvageRows script text report) ≡ 12
@@ -64,6 +75,15 @@ module _ (script text report : List ℕ) where
     λ e. split 32768 (length script) (λ h. h) (λ h. absurd (never (salvage-short h .exact 11 .0 e .holds) refl)),
     λ h. ap inSalvaging (salvage-long h),
   )
+
+-- and 7 exactly when it is not and one of the buffers is too short
+  pub seven-exactly : (salvageMeans script text report .number ≡ 7) ↔ ((length script ≤ 32768) × ((length text < length (cleaned script)) ⊎ (length report < length (linesOf script))))
+  unfolding roomRows lowest
+  seven-exactly =
+      (λ e. split 32768 (length script)
+          (λ h. absurd (omega (arith, e, ap inSalvaging (salvage-long h))))
+          (λ h. (h, ⊎-elim (λ t. inl (ltb-true (length text) (length (cleaned script)) t)) (λ r. inr (ltb-true (length report) (length (linesOf script)) r)) (one-of _ _ (sym (salvage-short h .numbered) ∙ e)))),
+      λ g. salvage-short (g .0) .numbered ∙ ⊎-elim (λ t. simp (lt-ltb (length text) (length (cleaned script)) t)) (λ r. simp (lt-ltb (length report) (length (linesOf script)) r) (either-one (ltb (length text) (length (cleaned script))))) (g .1))
 
 -- one answer, and one list of bytes for each buffer
 pub only-salvage : (r s : Salvaged) (text text′ report report′ : List ℕ) → salvagedAs r text report ≡ salvagedAs s text′ report′ → (r ≡ s) × (text ≡ text′) × (report ≡ report′)

@@ -1,15 +1,16 @@
 -- Lines that are some sequence followed by itself: laws of `sameBy`, `doubled` and `unrepeated`. Assumes nothing.
 use mathlib.Core.Path.{_≡_, refl, sym, ap, _∙_}
-use mathlib.Core.Bool.{Bool, true, false, _&&_, and-false}
+use mathlib.Core.Logic.{_↔_}
+use mathlib.Core.Bool.{Bool, true, false, _&&_, and-false, false≢true}
 use mathlib.Core.List.{List, [], _∷_, _++_}
 use Prim.Native.Nat.{ℕ, zero, suc, _+_, _-_, _*_, _/_, _%_, _<_, _≤_}
 use native.Mathlib.Omega.{arith}
 use lib.Dec.{eqb}
-use lib.ListN.{length, getD, take, drop, length-take, length-drop, length-append}
+use lib.ListN.{length, getD, take, drop, length-take, length-drop, length-append, take-append-drop}
 use lib.Seq.{take-add, take-at, drop-at, take-take, take-length, length-take-le}
-use borrow.Author.Tests.{eq-eqb, ne-eqb}
+use borrow.Author.Tests.{eq-eqb, ne-eqb, eqb-true}
 use Rattle.laws.specs.Iter.{iter, iter-add, iter-cons, iter-fixed}
-use Rattle.laws.proofs.Bools.{either}
+use Rattle.laws.proofs.Bools.{either, both-left, both-right}
 use Rattle.laws.proofs.Pick.{never}
 use Rattle.salvage.specs.Kept.{acceptedOf, startsReset, sameBy, sameLine, sameLines, earlier, later, doubled, halved, unrepeated, salvaged}
 use Rattle.salvage.proofs.Walks.{next}
@@ -219,3 +220,50 @@ first-half n lines h =
 pub all-counted : (lines : List (List ℕ)) (n : ℕ) → n ≡ length (acceptedOf lines) → unrepeated (take n (acceptedOf lines)) ≡ salvaged lines
 unfolding salvaged
 all-counted lines n e = ap (λ k. unrepeated (take k (acceptedOf lines))) e ∙ ap unrepeated (take-length (acceptedOf lines))
+
+-- ---- some sequence followed by itself
+
+same-is : {A : Type 0} (f : A → A → Bool) → ((x y : A) → f x y ≡ true → x ≡ y) → (a b : List A) → sameBy f a b ≡ true → a ≡ b
+unfolding sameBy
+same-is f is [] [] t = refl
+same-is f is [] (y ∷ b) t = absurd (false≢true t)
+same-is f is (x ∷ a) [] t = absurd (false≢true t)
+same-is f is (x ∷ a) (y ∷ b) t =
+    (λ i. is x y (both-left (f x y) (sameBy f a b) t) i ∷ same-is f is a b (both-right (f x y) (sameBy f a b) t) i)
+
+same-self : {A : Type 0} (f : A → A → Bool) → ((x : A) → f x x ≡ true) → (a : List A) → sameBy f a a ≡ true
+unfolding sameBy
+same-self f is [] = refl
+same-self f is (x ∷ a) = rw (is x) (same-self f is a)
+
+-- a sequence that starts with reset, twice
+pub record Twice (lines : List (List ℕ)) : Type 0 where
+  pub half : List (List ℕ)
+  pub twice : lines ≡ half ++ half
+  pub starts : startsReset half ≡ true
+
+module _ (lines : List (List ℕ)) where
+  is-twice : doubled lines ≡ true → Twice lines
+  unfolding doubled
+  is-twice t =
+      let first = both-left (startsReset (earlier lines)) _ t in
+      let rest = both-right (startsReset (earlier lines)) _ t in
+      let same = same-is sameLine (same-is eqb eqb-true) (earlier lines) (later lines) (both-right (startsReset (later lines)) _ rest) in
+      record {
+        half = earlier lines;
+        twice = sym (take-append-drop (length lines / 2) lines) ∙ ap (λ l. earlier lines ++ l) (sym same);
+        starts = first;
+      }
+
+  of-twice : Twice lines → doubled lines ≡ true
+  unfolding doubled
+  of-twice r =
+      let h = r .half in
+      let n : length h ≡ length lines / 2 = omega (arith, ap length (r .twice) ∙ length-append h h) in
+      let one : earlier lines ≡ h = ap (take (length lines / 2)) (r .twice) ∙ take-at h h (length lines / 2) n in
+      let two : later lines ≡ h = ap (drop (length lines / 2)) (r .twice) ∙ drop-at h h (length lines / 2) n in
+      rw (one, two, r .starts) (same-self sameLine (same-self eqb (λ x. eq-eqb x x refl)) h)
+
+  -- lines are taken for a repetition exactly when they are some sequence followed by itself that starts with reset
+  pub twice-exactly : (doubled lines ≡ true) ↔ Twice lines
+  twice-exactly = (is-twice, of-twice)
