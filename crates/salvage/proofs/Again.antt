@@ -9,8 +9,8 @@ use Rattle.controller.specs.Table.{lowest}
 use Rattle.lines.specs.Hex.{placed}
 use Rattle.script.specs.Text.{linesOf}
 use Rattle.salvage.specs.Kept.{salvaged, reportOf}
-use Rattle.salvage.specs.Salvage.{cleaned, roomRows, salvaging, salvageDone, salvageMeans}
-use Rattle.salvage.proofs.Outcomes.{salvage-short}
+use Rattle.salvage.specs.Salvage.{cleaned, salvaging, salvageDone, salvageMeans}
+use Rattle.salvage.proofs.Outcomes.{roomRows, salvage-short}
 use Rattle.salvage.proofs.Cleaned.{cleaned-lines, cleaned-again, report-again}
 
 -- buffers with room for the text and for the report are not refused

@@ -2,7 +2,7 @@
 use mathlib.Core.Path.{_≡_, refl, sym, ap, _∙_}
 use mathlib.Core.Logic.{_↔_, _⊎_, inl, inr, ⊎-elim}
 use mathlib.Core.Bool.{Bool, true, false}
-use mathlib.Core.List.{List}
+use mathlib.Core.List.{List, [], _∷_}
 use Prim.Native.Nat.{ℕ, _<_, _≤_}
 use native.Mathlib.Omega.{arith}
 use lib.Dec.{ltb}
@@ -11,13 +11,17 @@ use borrow.Author.Tests.{lt-ltb, le-ltb, ltb-true, ltb-false}
 use Rattle.laws.specs.Pick.{pick}
 use Rattle.laws.proofs.Order.{split}
 use Rattle.laws.proofs.Pick.{never}
-use Rattle.controller.specs.Table.{noRoom, before, lowest, judged}
+use Rattle.controller.specs.Table.{Row, noRoom, before, lowest, judged}
 use Rattle.controller.proofs.Only.{only-number, some-number}
 use Rattle.controller.proofs.Refusals.{Refuses, Given, refuses, rowHolds, risingFrom, first-fails}
 use Rattle.script.specs.Text.{linesOf}
 use Rattle.salvage.specs.declared.Salvaged.{Salvaged}
 use Rattle.salvage.specs.declared.Salvaged.the-variants as answers
-use Rattle.salvage.specs.Salvage.{cleaned, roomRows, salvageRows, Salvaging, salvaging, unsalvaged, salvageDone, salvageMeans, salvagedAs}
+use Rattle.salvage.specs.Salvage.{cleaned, textShort, reportShort, salvageRows, Salvaging, salvaging, unsalvaged, salvageDone, salvageMeans, salvagedAs}
+
+-- the rows of the two buffers
+unfoldable pub roomRows : List ℕ → List ℕ → List ℕ → List Row
+roomRows script text report = textShort script text ∷ reportShort script report ∷ []
 
 abbrev pub inSalvaging : Salvaging → ℕ
 inSalvaging o = o .number
@@ -38,7 +42,7 @@ module _ (script text report : List ℕ) where
   long-rows h = simp (lt-ltb 32768 (length script) h)
 
   short-rows : length script ≤ 32768 → lowest (salvageRows script text report) ≡ lowest (roomRows script text report)
-  unfolding salvageRows lowest
+  unfolding salvageRows roomRows lowest
   short-rows h = simp (le-ltb 32768 (length script) h)
 
   -- 12 for a script over the size, whatever the buffers
@@ -76,14 +80,15 @@ module _ (script text report : List ℕ) where
     λ h. ap inSalvaging (salvage-long h),
   )
 
--- and 7 exactly when it is not and one of the buffers is too short
+  -- and 7 exactly when it is not and one of the buffers is too short
   pub seven-exactly : (salvageMeans script text report .number ≡ 7) ↔ ((length script ≤ 32768) × ((length text < length (cleaned script)) ⊎ (length report < length (linesOf script))))
   unfolding roomRows lowest
-  seven-exactly =
-      (λ e. split 32768 (length script)
-          (λ h. absurd (omega (arith, e, ap inSalvaging (salvage-long h))))
-          (λ h. (h, ⊎-elim (λ t. inl (ltb-true (length text) (length (cleaned script)) t)) (λ r. inr (ltb-true (length report) (length (linesOf script)) r)) (one-of _ _ (sym (salvage-short h .numbered) ∙ e)))),
-      λ g. salvage-short (g .0) .numbered ∙ ⊎-elim (λ t. simp (lt-ltb (length text) (length (cleaned script)) t)) (λ r. simp (lt-ltb (length report) (length (linesOf script)) r) (either-one (ltb (length text) (length (cleaned script))))) (g .1))
+  seven-exactly = (
+    λ e. split 32768 (length script)
+        (λ h. absurd (omega (arith, e, ap inSalvaging (salvage-long h))))
+        (λ h. (h, ⊎-elim (λ t. inl (ltb-true (length text) (length (cleaned script)) t)) (λ r. inr (ltb-true (length report) (length (linesOf script)) r)) (one-of _ _ (sym (salvage-short h .numbered) ∙ e)))),
+    λ g. salvage-short (g .0) .numbered ∙ ⊎-elim (λ t. simp (lt-ltb (length text) (length (cleaned script)) t)) (λ r. simp (lt-ltb (length report) (length (linesOf script)) r) (either-one (ltb (length text) (length (cleaned script))))) (g .1),
+  )
 
 -- one answer, and one list of bytes for each buffer
 pub only-salvage : (r s : Salvaged) (text text′ report report′ : List ℕ) → salvagedAs r text report ≡ salvagedAs s text′ report′ → (r ≡ s) × (text ≡ text′) × (report ≡ report′)

@@ -17,16 +17,20 @@ unfoldable pub cleaned : List ℕ → List ℕ
 cleaned script = textOf (salvaged (linesOf script))
 
 -- 12: a script over 32,768 bytes
-abbrev pub tooLong : ℕ → Row
-tooLong length = row refusals.Script (ltb 32768 length)
+abbrev pub tooLong : List ℕ → Row
+tooLong script = row refusals.Script (ltb 32768 (length script))
 
--- 7: the text buffer is shorter than the cleaned text or the report shorter than the number of lines
-unfoldable pub roomRows : List ℕ → List ℕ → List ℕ → List Row
-roomRows script text report = noRoom (length (cleaned script)) (length text) ∷ noRoom (length (linesOf script)) (length report) ∷ []
+-- 7: the text buffer is shorter than the cleaned text
+abbrev pub textShort : List ℕ → List ℕ → Row
+textShort script text = noRoom (length (cleaned script)) (length text)
+
+-- or the report shorter than the number of lines
+abbrev pub reportShort : List ℕ → List ℕ → Row
+reportShort script report = noRoom (length (linesOf script)) (length report)
 
 -- Refusals: 12 for a script over the size, then 7
 unfoldable pub salvageRows : List ℕ → List ℕ → List ℕ → List Row
-salvageRows script text report = tooLong (length script) ∷ roomRows script text report
+salvageRows script text report = tooLong script ∷ textShort script text ∷ reportShort script report ∷ []
 
 -- the outcome: refusal number (0: none), the text's length, the number of lines, and both buffers afterwards
 pub record Salvaging : Type 0 where

@@ -13,9 +13,9 @@ use Rattle.controller.proofs.Refusals.{Refuses, by-why, by-fits, fits-none}
 use Rattle.lines.specs.Hex.{placed}
 use Rattle.script.specs.Text.{linesOf}
 use Rattle.salvage.specs.Kept.{salvaged, textOf, marks, reportOf}
-use Rattle.salvage.specs.Salvage.{cleaned, roomRows, salvaging, unsalvaged, salvageDone, salvageMeans}
+use Rattle.salvage.specs.Salvage.{cleaned, salvaging, unsalvaged, salvageDone, salvageMeans}
 use Rattle.salvage.specs.Places.{acceptedAt}
-use Rattle.salvage.proofs.Outcomes.{inSalvaging, room-judged, salvage-long, salvage-short, salvage-fits}
+use Rattle.salvage.proofs.Outcomes.{roomRows, inSalvaging, room-judged, salvage-long, salvage-short, salvage-fits}
 use Rattle.salvage.proofs.salvage.Statement.{statement}
 use Rattle.salvage.proofs.salvage.Tie as tie
 
