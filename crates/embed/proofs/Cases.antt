@@ -27,26 +27,28 @@ use Rattle.controller.specs.Inspect.{inspectMeans}
 use Rattle.controller.specs.Table.{Row, lowest}
 use Rattle.controller.specs.Picture.{afresh, pictureMeans}
 use Rattle.controller.proofs.Only.{some-number}
-use Rattle.controller.proofs.Refusals.{Refuses, inOutcome, read-refuses, write-refuses, tick-refuses}
+use Rattle.controller.proofs.Refusals.{Refuses, inOutcome, read-refuses, write-refuses, tick-refuses, judged-ind}
 use Rattle.lines.specs.declared.line.Frame.{Frame}
 use Rattle.lines.specs.declared.record.Recorded.{Recorded}
 use Rattle.lines.specs.declared.record.Recorded.the-variants as answers
 use Rattle.lines.specs.Record.{Recording, recorded, recordMeans}
 use Rattle.lines.proofs.Recorded.{record-most}
 use Rattle.plates.specs.declared.grey.Output.{Output}
-use Rattle.plates.specs.Grey.{exported, outputNumber, outputValue, exportMeans}
+use Rattle.plates.specs.Grey.{Exported, exported, outputNumber, outputValue, exportMeans}
+use Rattle.plates.specs.Shades.{shadesMeans}
+use Rattle.plates.specs.Placing.{placeRows, placeMeans}
 use Rattle.photos.specs.Photo.{imported, importMeans}
 use Rattle.desk.specs.declared.choice.Exposure.{Exposure}
 use Rattle.desk.specs.Choice.{chooseMeans}
 use Rattle.desk.proofs.Choices.{choose-refuses}
 use Rattle.embed.specs.Layout.{encoded, isRecord, decoded}
 use Rattle.embed.specs.Packed.{packed}
-use Rattle.embed.specs.Exports.{called, asBytes, noRecord, unread, resetBytes, readBytes, writeBytes, tickBytes, inspected, inspectBytes, filled, asDrawn, pictureBytes, asLine, recordBytes, asWritten, exportBytes, asRead, importBytes, plainIn, exposureIn, chooseBytes}
+use Rattle.embed.specs.Exports.{called, asBytes, noRecord, unread, resetBytes, readBytes, writeBytes, tickBytes, inspected, inspectBytes, filled, asDrawn, pictureBytes, asLine, recordBytes, asWritten, exportBytes, shadesBytes, placeBytes, asRead, importBytes, plainIn, exposureIn, chooseBytes}
 use Rattle.embed.proofs.Inverse.{encode-decode}
 
--- an outcome with a number hands back the state given and changes no byte lent
-pub kept : {rows : List Row} {c : Controller} {ram store : List ℕ} {o done : Outcome} → Refuses rows inOutcome (refusal c ram store) o done
-    → (n : ℕ) → (0 ≡ n → ⊥) → o .number ≡ n → o ≡ outcome n 0 c ram store
+-- what comes to a number is that refusal: for an outcome, the state given and every byte lent
+pub kept : {O : Type 0} {rows : List Row} {number : O → ℕ} {refused : ℕ → O} {o done : O} → Refuses rows number refused o done
+    → (n : ℕ) → (0 ≡ n → ⊥) → number o ≡ n → o ≡ refused n
 kept r zero some e = absurd (some refl)
 kept r (suc k) some e = r .kept k (sym (r .numbered) ∙ e)
 
@@ -203,10 +205,10 @@ module _ (s : List ℕ) where
 
 -- ---- the picture afresh
 
-module _ (frame registers picture : List ℕ) (r : WriteAnswer) (left : List ℕ) (means : afresh (writeNumber r) left ≡ pictureMeans frame registers picture) where
-  pub picture-drawn : (x : WriteAnswer) → r ≡ x → (p : ℕ) → p ≡ packed (writeNumber x) 0 → filled p left ≡ pictureBytes frame registers picture
-  unfolding pictureBytes
-  picture-drawn x f p q = (λ i. filled (q i) left) ∙ ap asDrawn (ap (λ y. afresh (writeNumber y) left) (sym f) ∙ means)
+pub picture-drawn : (frame registers picture : List ℕ) (r : WriteAnswer) (left : List ℕ) → afresh (writeNumber r) left ≡ pictureMeans frame registers picture
+    → (p : ℕ) → p ≡ packed (writeNumber r) 0 → filled p left ≡ pictureBytes frame registers picture
+unfolding pictureBytes
+picture-drawn frame registers picture r left means p q = (λ i. filled (q i) left) ∙ ap asDrawn means
 
 -- ---- a frame written as a line
 
@@ -227,16 +229,49 @@ module _ (f : Frame) (bytes out : List ℕ) (a : Recorded) (left : List ℕ) (me
   unfolding recordBytes
   record-filled p q = ap (λ n. filled n left) q ∙ recorded-answer a left ∙ ap asLine means
 
--- ---- the picture area as a grey image
+-- ---- the picture area as a grey image, and as shades
 
-module _ (ram out : List ℕ) (r : Output) (left : List ℕ) (means : exported (outputNumber r) (outputValue r) left ≡ exportMeans ram out) where
-  pub export-written : (x : Output) → r ≡ x → (p : ℕ) → p ≡ packed (outputNumber x) (outputValue x) → filled p left ≡ exportBytes ram out
+-- bytes written into a lent buffer
+written : (m : Exported) (r : Output) (left : List ℕ) → exported (outputNumber r) (outputValue r) left ≡ m → (p : ℕ) → p ≡ packed (outputNumber r) (outputValue r) → filled p left ≡ asWritten m
+written m r left means p q = (λ i. filled (q i) left) ∙ ap asWritten means
+
+module _ (ram out : List ℕ) (r : Output) (left : List ℕ) where
+  pub export-written : exported (outputNumber r) (outputValue r) left ≡ exportMeans ram out → (p : ℕ) → p ≡ packed (outputNumber r) (outputValue r) → filled p left ≡ exportBytes ram out
   unfolding exportBytes
-  export-written x f p q = (λ i. filled (q i) left) ∙ ap asWritten (ap (λ y. exported (outputNumber y) (outputValue y) left) (sym f) ∙ means)
+  export-written = written (exportMeans ram out) r left
+
+  pub shades-written : exported (outputNumber r) (outputValue r) left ≡ shadesMeans ram out → (p : ℕ) → p ≡ packed (outputNumber r) (outputValue r) → filled p left ≡ shadesBytes ram out
+  unfolding shadesBytes
+  shades-written = written (shadesMeans ram out) r left
+
+-- ---- a plate's file back into the picture area
+
+module _ (s ram file : List ℕ) where
+  pub place-unread : isRecord s ≡ false → placeBytes s ram file ≡ unread s ram []
+  unfolding placeBytes
+  place-unread h = simp h
+
+  pub place-done : isRecord s ≡ true → placeBytes s ram file ≡ asBytes (placeMeans (decoded s) ram file)
+  unfolding placeBytes
+  place-done h = simp h
+
+  -- placed or refused, the state is the one given
+  pub place-state : (c : Controller) → placeMeans c ram file .state ≡ c
+  unfolding placeMeans
+  place-state c = judged-ind (λ (o : Outcome). o .state ≡ c) (lowest (placeRows c ram file)) (λ k. refl) refl
+
+  -- so the state bytes are those lent
+  pub place-answered : Bytes s → isRecord s ≡ true → (d : Controller) (r : WriteAnswer) (ram′ : List ℕ) → d ≡ decoded s → outcome (writeNumber r) 0 d ram′ [] ≡ placeMeans d ram file
+      → (p : ℕ) → p ≡ packed (writeNumber r) 0 → called p s ram′ [] ≡ placeBytes s ram file
+  place-answered bytes h d r ram′ e means p q =
+      (λ i. called (q i) s ram′ [])
+      ∙ ap (λ t. called (packed (writeNumber r) 0) t ram′ []) (sym (ap encoded e ∙ encode-decode s bytes h))
+      ∙ ap asBytes (means ∙ ap (λ c. placeMeans c ram file) e)
+      ∙ sym (place-done h)
 
 -- ---- a photograph
 
-module _ (file image : List ℕ) (r : WriteAnswer) (now : List ℕ) (means : imported (writeNumber r) now ≡ importMeans file image) where
-  pub import-read : (x : WriteAnswer) → r ≡ x → (p : ℕ) → p ≡ packed (writeNumber x) 0 → filled p now ≡ importBytes file image
-  unfolding importBytes
-  import-read x f p q = (λ i. filled (q i) now) ∙ ap asRead (ap (λ y. imported (writeNumber y) now) (sym f) ∙ means)
+pub import-read : (file image : List ℕ) (r : WriteAnswer) (left : List ℕ) → imported (writeNumber r) left ≡ importMeans file image
+    → (p : ℕ) → p ≡ packed (writeNumber r) 0 → filled p left ≡ importBytes file image
+unfolding importBytes
+import-read file image r left means p q = (λ i. filled (q i) left) ∙ ap asRead means

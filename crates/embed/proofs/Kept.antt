@@ -1,6 +1,6 @@
--- A refused call leaves the state bytes, the RAM and the frame store as they were. Assumes nothing.
+-- A refused call leaves the state bytes, the RAM, the frame store and a lent buffer as they were. Assumes nothing.
 use mathlib.Core.Path.{_≡_, refl, sym, _∙_}
-use mathlib.Core.Bool.{true}
+use mathlib.Core.Bool.{true, false}
 use mathlib.Core.List.{List, []}
 use Prim.Native.Nat.{ℕ, _/_, _<_}
 use Rattle.tiles.specs.Tiles.{Bytes}
@@ -10,11 +10,14 @@ use Rattle.controller.specs.Calls.{refusal}
 use Rattle.controller.proofs.Refusals.{Refuses, inOutcome, write-refuses, tick-refuses}
 use Rattle.laws.proofs.Bools.{either}
 use Rattle.desk.proofs.Choices.{choose-refuses}
+use Rattle.plates.specs.Grey.{Exported, exported}
+use Rattle.plates.proofs.Exports.{inExported, export-refuses, shades-refuses}
+use Rattle.plates.proofs.Placed.{place-refuses}
 use Rattle.embed.specs.Layout.{encoded, isRecord, decoded}
-use Rattle.embed.specs.Exports.{Called, asBytes, writeBytes, tickBytes, plainIn, exposureIn, chooseBytes}
+use Rattle.embed.specs.Exports.{Called, asBytes, unread, writeBytes, tickBytes, plainIn, exposureIn, chooseBytes, exportBytes, shadesBytes, placeBytes}
 use Rattle.embed.proofs.Inverse.{encode-decode}
-use Rattle.embed.proofs.Cases.{kept, write-unread, write-done, tick-unread, tick-done, choose-unread, choose-done}
-use Rattle.embed.proofs.Only.{write-says, tick-says, choose-says}
+use Rattle.embed.proofs.Cases.{kept, write-unread, write-done, tick-unread, tick-done, choose-unread, choose-done, place-unread, place-done}
+use Rattle.embed.proofs.Only.{Says, write-says, tick-says, choose-says, place-says, export-says, shades-says}
 
 pub record Keeps (c : Called) (s m f : List ℕ) : Type 0 where
   pub state : c .state ≡ s
@@ -32,26 +35,36 @@ module _ (s ram store : List ℕ) (bytes : Bytes s) where
       }
 
   -- an answer that is not below 2^32 is a refusal
-  pub write-kept : (image : List ℕ) (a v : ℕ) → (0 ≡ writeBytes s ram store image a v .answer / 4294967296 → ⊥) → Keeps (writeBytes s ram store image a v) s ram store
-  write-kept image a v some =
+  called-kept : {b : Called} {rows : List Row} {o done : Outcome} → (isRecord s ≡ false → b ≡ unread s ram store) → (isRecord s ≡ true → b ≡ asBytes o) → Refuses rows inOutcome (refusal (decoded s) ram store) o done
+      → (isRecord s ≡ true → Says (b .answer) (o .number) (o .value)) → (0 ≡ b .answer / 4294967296 → ⊥) → Keeps b s ram store
+  called-kept un does r says some =
       either (isRecord s)
-      (λ h.
-      rw (write-done s ram store image a v h)
-      (keeps h (write-refuses (decoded s) ram store image a v) (λ z. some (z ∙ sym (write-says s ram store image a v h .number)))))
-      (λ h. rw (write-unread s ram store image a v h) (record { state = refl; ram = refl; store = refl }))
+      (λ h. rw (does h) (keeps h r (λ z. some (z ∙ sym (says h .number)))))
+      (λ h. rw (un h) (record { state = refl; ram = refl; store = refl }))
+
+  pub write-kept : (image : List ℕ) (a v : ℕ) → (0 ≡ writeBytes s ram store image a v .answer / 4294967296 → ⊥) → Keeps (writeBytes s ram store image a v) s ram store
+  write-kept image a v =
+      called-kept (write-unread s ram store image a v) (write-done s ram store image a v) (write-refuses (decoded s) ram store image a v) (write-says s ram store image a v)
 
   pub tick-kept : (n : ℕ) → n < 4294967296 → (0 ≡ tickBytes s ram store n .answer / 4294967296 → ⊥) → Keeps (tickBytes s ram store n) s ram store
-  tick-kept n l some =
-      either (isRecord s)
-      (λ h.
-      rw (tick-done s ram store n h)
-      (keeps h (tick-refuses (decoded s) ram store n) (λ z. some (z ∙ sym (tick-says s ram store n l h .number)))))
-      (λ h. rw (tick-unread s ram store n h) (record { state = refl; ram = refl; store = refl }))
+  tick-kept n l = called-kept (tick-unread s ram store n) (tick-done s ram store n) (tick-refuses (decoded s) ram store n) (tick-says s ram store n l)
 
 pub choose-kept : (s : List ℕ) → Bytes s → (light level plain exposure : ℕ) → (0 ≡ chooseBytes s light level plain exposure .answer / 4294967296 → ⊥) → chooseBytes s light level plain exposure .state ≡ s
 choose-kept s bytes light level plain exposure some =
-    either (isRecord s)
-    (λ h.
-    rw (choose-done s light level plain exposure h)
-    (keeps s [] [] bytes h (choose-refuses (decoded s) light level (plainIn plain) (exposureIn exposure)) (λ z. some (z ∙ sym (choose-says s light level plain exposure h .number))) .state))
-    (λ h. rw (choose-unread s light level plain exposure h) refl)
+    called-kept s [] [] bytes (choose-unread s light level plain exposure) (choose-done s light level plain exposure) (choose-refuses (decoded s) light level (plainIn plain) (exposureIn exposure)) (choose-says s light level plain exposure) some .state
+
+pub place-kept : (s ram file : List ℕ) → Bytes s → (0 ≡ placeBytes s ram file .answer / 4294967296 → ⊥) → Keeps (placeBytes s ram file) s ram []
+place-kept s ram file bytes =
+    called-kept s ram [] bytes (place-unread s ram file) (place-done s ram file) (place-refuses (decoded s) ram file) (place-says s ram file)
+
+-- a buffer that would have been written
+written-kept : {rows : List Row} {out : List ℕ} {m done : Exported} → Refuses rows inExported (λ n. exported n 0 out) m done → (0 ≡ m .number → ⊥) → m .bytes ≡ out
+written-kept {rows} {out} {m} {done} r some = λ i. kept r (m .number) some refl i .bytes
+
+pub export-kept : (ram out : List ℕ) → (0 ≡ exportBytes ram out .answer / 4294967296 → ⊥) → exportBytes ram out .bytes ≡ out
+unfolding exportBytes
+export-kept ram out some = written-kept (export-refuses ram out) (λ z. some (z ∙ sym (export-says ram out .number)))
+
+pub shades-kept : (ram out : List ℕ) → (0 ≡ shadesBytes ram out .answer / 4294967296 → ⊥) → shadesBytes ram out .bytes ≡ out
+unfolding shadesBytes
+shades-kept ram out some = written-kept (shades-refuses ram out) (λ z. some (z ∙ sym (shades-says ram out .number)))

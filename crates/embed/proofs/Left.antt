@@ -31,9 +31,9 @@ use Rattle.desk.proofs.Choices.{choose-refuses}
 use Rattle.desk.proofs.Level.{chosen-length}
 use Rattle.embed.specs.Layout.{encoded, isRecord, fourAt, decoded}
 use Rattle.embed.specs.Packed.{packed}
-use Rattle.embed.specs.Exports.{Called, asBytes, writeBytes, tickBytes, plainIn, exposureIn, chooseBytes}
-use Rattle.embed.proofs.Inverse.{Whole, record-parts, encoded-record, decode-encode}
-use Rattle.embed.proofs.Cases.{write-done, tick-done, choose-done}
+use Rattle.embed.specs.Exports.{Called, asBytes, writeBytes, tickBytes, plainIn, exposureIn, chooseBytes, placeBytes}
+use Rattle.embed.proofs.Inverse.{Whole, record-parts, encoded-record, decode-encode, encode-decode}
+use Rattle.embed.proofs.Cases.{write-done, tick-done, choose-done, place-unread, place-done, place-state}
 
 -- ---- what bytes are read as
 
@@ -218,3 +218,10 @@ module _ (s ram store : List ℕ) (bytes : Bytes s) (h : isRecord s ≡ true) wh
       tick-done s ram store (a + b) h ∙ ap asBytes (tick-sum (decoded s) ram store a b) in
       rw (tick-done s ram store a h, second, all)
       (record { state = refl; ram = refl; store = refl; answer = add-up _ _ _ _ })
+
+-- a placing, done or refused, leaves the state bytes as they were
+pub place-left : (s ram file : List ℕ) → Bytes s → placeBytes s ram file .state ≡ s
+place-left s ram file bytes =
+    either (isRecord s)
+    (λ h. rw (place-done s ram file h) (ap encoded (place-state s ram file (decoded s)) ∙ encode-decode s bytes h))
+    (λ h. rw (place-unread s ram file h) refl)

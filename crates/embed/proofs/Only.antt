@@ -22,14 +22,18 @@ use Rattle.controller.proofs.Refusals.{Refuses, inOutcome, read-refuses, write-
 use Rattle.lines.specs.declared.line.Frame.{Frame}
 use Rattle.lines.specs.Record.{recordMeans}
 use Rattle.lines.proofs.Recorded.{record-most}
-use Rattle.plates.specs.Grey.{Exported, exportRows, exportMeans}
+use Rattle.plates.specs.Grey.{Exported, exported, exportMeans}
+use Rattle.plates.specs.Shades.{shadesMeans}
+use Rattle.plates.specs.Placing.{placeMeans}
+use Rattle.plates.proofs.Exports.{inExported, export-refuses, shades-refuses}
+use Rattle.plates.proofs.Placed.{place-refuses}
 use Rattle.photos.specs.Photo.{importMeans}
 use Rattle.desk.specs.Choice.{chooseMeans}
 use Rattle.desk.proofs.Choices.{choose-refuses}
 use Rattle.embed.specs.Layout.{isRecord, decoded}
 use Rattle.embed.specs.Packed.{packed}
-use Rattle.embed.specs.Exports.{readBytes, writeBytes, tickBytes, elementValue, inspectBytes, recordBytes, exportBytes, importBytes, plainIn, exposureIn, chooseBytes}
-use Rattle.embed.proofs.Cases.{read-done, write-done, tick-done, inspect-done, choose-done}
+use Rattle.embed.specs.Exports.{readBytes, writeBytes, tickBytes, elementValue, inspectBytes, recordBytes, exportBytes, shadesBytes, placeBytes, importBytes, plainIn, exposureIn, chooseBytes}
+use Rattle.embed.proofs.Cases.{read-done, write-done, tick-done, inspect-done, choose-done, place-done}
 
 -- the number stands above 2^32, and the value below
 pub record Says (answer n v : ℕ) : Type 0 where
@@ -46,13 +50,20 @@ only-packed m n v w hv hw e =
     let q = packed-says n w hw in
     (sym (p .number) ∙ ap (λ k. k / 4294967296) e ∙ q .number, sym (p .value) ∙ ap (λ k. k % 4294967296) e ∙ q .value)
 
--- a refusal's value is 0, so an outcome's value is below 2^32 where that of what is done is
-small : {rows : List Row} {c : Controller} {ram store : List ℕ} {o done : Outcome} → Refuses rows inOutcome (refusal c ram store) o done → done .value < 4294967296 → o .value < 4294967296
-small {rows} {c} {ram} {store} {o} {done} r h = by-number (lowest rows) refl
+-- a refusal's value is 0, so a call's value is below 2^32 where that of what is done is
+small-of : {O : Type 0} (value : O → ℕ) {rows : List Row} {number : O → ℕ} {refused : ℕ → O} {o done : O} → Refuses rows number refused o done → ((n : ℕ) → value (refused n) ≡ 0) → value done < 4294967296 → value o < 4294967296
+small-of value {rows} {number} {refused} {o} {done} r none h = by-number (lowest rows) refl
   where
-    by-number : (n : ℕ) → lowest rows ≡ n → o .value < 4294967296
+    by-number : (n : ℕ) → lowest rows ≡ n → value o < 4294967296
     by-number zero e = rw (r .does e) h
-    by-number (suc k) e = rw (r .kept k e) (omega arith)
+    by-number (suc k) e = rw (r .kept k e, none (suc k)) (omega arith)
+
+small : {rows : List Row} {c : Controller} {ram store : List ℕ} {o done : Outcome} → Refuses rows inOutcome (refusal c ram store) o done → done .value < 4294967296 → o .value < 4294967296
+small r = small-of (λ (o : Outcome). o .value) r (λ n. refl)
+
+-- so for bytes written into a lent buffer
+written-small : {rows : List Row} {out : List ℕ} {m done : Exported} → Refuses rows inExported (λ n. exported n 0 out) m done → done .value < 4294967296 → m .value < 4294967296
+written-small r = small-of (λ (m : Exported). m .value) r (λ n. refl)
 
 -- a byte that is read is a byte
 byte-small : (c : Controller) (rom ram : List ℕ) (a : ℕ) → Bytes rom → Bytes ram → byteRead c rom ram a < 256
@@ -116,13 +127,18 @@ unfolding recordBytes
 record-says f bytes out = packed-says _ _ (omega (arith, record-most f bytes out))
 
 -- an export's answer
-export-small : (ram out : List ℕ) → exportMeans ram out .value < 4294967296
-unfolding exportMeans
-export-small ram out = judged-ind (λ (e : Exported). e .value < 4294967296) (lowest (exportRows ram out)) (λ k. omega arith) (omega arith)
-
 pub export-says : (ram out : List ℕ) → Says (exportBytes ram out .answer) (exportMeans ram out .number) (exportMeans ram out .value)
 unfolding exportBytes
-export-says ram out = packed-says _ _ (export-small ram out)
+export-says ram out = packed-says _ _ (written-small (export-refuses ram out) (omega arith))
+
+-- and that of shades
+pub shades-says : (ram out : List ℕ) → Says (shadesBytes ram out .answer) (shadesMeans ram out .number) (shadesMeans ram out .value)
+unfolding shadesBytes
+shades-says ram out = packed-says _ _ (written-small (shades-refuses ram out) (omega arith))
+
+-- a placing's answer
+pub place-says : (s ram file : List ℕ) → isRecord s ≡ true → Says (placeBytes s ram file .answer) (placeMeans (decoded s) ram file .number) (placeMeans (decoded s) ram file .value)
+place-says s ram file h = rw (place-done s ram file h) (packed-says _ _ (small (place-refuses (decoded s) ram file) (omega arith)))
 
 -- a photograph's answer
 pub import-says : (file image : List ℕ) → Says (importBytes file image .answer) (importMeans file image .number) 0

@@ -14,6 +14,8 @@ use Rattle.controller.specs.Picture.{Afresh, pictureMeans}
 use Rattle.lines.specs.declared.line.Frame.{Frame}
 use Rattle.lines.specs.Record.{Recording, recordMeans}
 use Rattle.plates.specs.Grey.{Exported, exportMeans}
+use Rattle.plates.specs.Shades.{shadesMeans}
+use Rattle.plates.specs.Placing.{placeMeans}
 use Rattle.photos.specs.Photo.{Imported, importMeans}
 use Rattle.desk.specs.declared.choice.Exposure.{Exposure}
 use Rattle.desk.specs.declared.choice.Exposure.the-variants.{Named, Unnamed}
@@ -110,6 +112,14 @@ asWritten e = filled (packed (e .number) (e .value)) (e .bytes)
 -- the picture area as a grey image
 unfoldable pub exportBytes : List ℕ → List ℕ → Filled
 exportBytes ram out = asWritten (exportMeans ram out)
+
+-- the picture area as shades, one a byte
+unfoldable pub shadesBytes : List ℕ → List ℕ → Filled
+shadesBytes ram out = asWritten (shadesMeans ram out)
+
+-- a plate's file back into the picture area
+unfoldable pub placeBytes : List ℕ → List ℕ → List ℕ → Called
+placeBytes s ram file = pick (isRecord s) (asBytes (placeMeans (decoded s) ram file)) (unread s ram [])
 
 -- a photograph read into a lent image
 abbrev pub asRead : Imported → Filled

@@ -1,11 +1,14 @@
 // An answer as one number: the refusal's number * 2^32 + the value.
 use controller::Refusal;
+use controller::WriteAnswer;
 use lines::record::Recorded;
+use plates::grey::Output;
 ghost use mathlib.Core.Path.{_≡_};
 ghost use mathlib.Core.List.{[]};
 ghost use Prim.Native.Nat.{_≤_};
-ghost use Rattle.controller.specs.Outcome.{numberOf};
+ghost use Rattle.controller.specs.Outcome.{numberOf, writeNumber};
 ghost use Rattle.lines.specs.Record.{recorded};
+ghost use Rattle.plates.specs.Grey.{outputNumber, outputValue};
 ghost use Rattle.embed.specs.Packed.{packed};
 ghost use Rattle.embed.specs.Exports.{asLine};
 
@@ -21,6 +24,26 @@ pub fn refused(why: Refusal) -> u64
     ensures { λ r. ⌜ r ≡ packed (numberOf why) 0 ⌝ }
 {
     pack(why.number(), 0)
+}
+
+// What is done or refused, without a value.
+pub fn done_answer(a: WriteAnswer) -> u64
+    ensures { λ r. ⌜ r ≡ packed (writeNumber a) 0 ⌝ }
+{
+    match a {
+        WriteAnswer::Done => pack(0, 0),
+        WriteAnswer::Refused(why) => refused(why),
+    }
+}
+
+// Bytes that were written: how many, or the refusal.
+pub fn output_answer(a: Output) -> u64
+    ensures { λ r. ⌜ r ≡ packed (outputNumber a) (outputValue a) ⌝ }
+{
+    match a {
+        Output::Bytes(n) => pack(0, n),
+        Output::Refused(why) => refused(why),
+    }
 }
 
 // A line that was recorded: its length with the LF, or the refusal.

@@ -4,6 +4,8 @@ mod answer;
 mod layout;
 mod record;
 
+use answer::done_answer;
+use answer::output_answer;
 use answer::pack;
 use answer::refused;
 use controller::Controller;
@@ -20,11 +22,12 @@ use layout::encode;
 use layout::is_record;
 use layout::wide;
 use photos::photo::import;
-use plates::grey::Output;
 use plates::grey::export;
+use plates::placing::place;
+use plates::shades::shades;
 ghost use mathlib.Core.Path.{_≡_};
 ghost use mathlib.Core.List.{[]};
-ghost use Rattle.embed.specs.Exports.{called, resetBytes, readBytes, writeBytes, tickBytes, inspectBytes, filled, pictureBytes, exportBytes, importBytes, exposureIn, chooseBytes};
+ghost use Rattle.embed.specs.Exports.{called, resetBytes, readBytes, writeBytes, tickBytes, inspectBytes, filled, pictureBytes, exportBytes, shadesBytes, placeBytes, importBytes, exposureIn, chooseBytes};
 
 // Writes the reset record.
 #[no_mangle]
@@ -168,11 +171,7 @@ pub extern "C" fn gulxinett_picture(
 ) -> u64
     ensures { λ r. ⌜ filled r (now (picture .exit)) ≡ pictureBytes (now (frame .entry)) (now (registers .entry)) (now (picture .entry)) ⌝ }
 {
-    let answer = Controller::picture(frame, *registers, picture);
-    match answer {
-        WriteAnswer::Done => pack(0, 0),
-        WriteAnswer::Refused(why) => refused(why),
-    }
+    done_answer(Controller::picture(frame, *registers, picture))
 }
 
 // Writes the picture area as a grey image, a Netpbm file of kind P5.
@@ -180,11 +179,26 @@ pub extern "C" fn gulxinett_picture(
 pub extern "C" fn gulxinett_export(ram: &[u8], out: &mut [u8]) -> u64
     ensures { λ r. ⌜ filled r (now (out .exit)) ≡ exportBytes (now (ram .entry)) (now (out .entry)) ⌝ }
 {
-    let answer = export(ram, out);
-    match answer {
-        Output::Bytes(n) => pack(0, n),
-        Output::Refused(why) => refused(why),
+    output_answer(export(ram, out))
+}
+
+// Writes the picture area as shades, one a byte.
+#[no_mangle]
+pub extern "C" fn gulxinett_shades(ram: &[u8], out: &mut [u8]) -> u64
+    ensures { λ r. ⌜ filled r (now (out .exit)) ≡ shadesBytes (now (ram .entry)) (now (out .entry)) ⌝ }
+{
+    output_answer(shades(ram, out))
+}
+
+// Places a grey image, a file as it is exported, in the picture area.
+#[no_mangle]
+pub extern "C" fn gulxinett_place(state: &[u8], ram: &mut [u8], file: &[u8]) -> u64
+    ensures { λ r. ⌜ called r (now (state .entry)) (now (ram .exit)) [] ≡ placeBytes (now (state .entry)) (now (ram .entry)) (now (file .entry)) ⌝ }
+{
+    if !is_record(state) {
+        return refused(Refusal::State);
     }
+    done_answer(place(decode(state), ram, file))
 }
 
 // Reads a photograph, a Netpbm file of kind P6, into an image.
@@ -192,9 +206,5 @@ pub extern "C" fn gulxinett_export(ram: &[u8], out: &mut [u8]) -> u64
 pub extern "C" fn gulxinett_import_photo(file: &[u8], image: &mut [u8]) -> u64
     ensures { λ r. ⌜ filled r (now (image .exit)) ≡ importBytes (now (file .entry)) (now (image .entry)) ⌝ }
 {
-    let answer = import(file, image);
-    match answer {
-        WriteAnswer::Done => pack(0, 0),
-        WriteAnswer::Refused(why) => refused(why),
-    }
+    done_answer(import(file, image))
 }
