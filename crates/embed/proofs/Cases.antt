@@ -37,13 +37,14 @@ use Rattle.plates.specs.declared.grey.Output.{Output}
 use Rattle.plates.specs.Grey.{Exported, exported, outputNumber, outputValue, exportMeans}
 use Rattle.plates.specs.Shades.{shadesMeans}
 use Rattle.plates.specs.Placing.{placeRows, placeMeans}
+use Rattle.plates.specs.Readings.{readingsMean}
 use Rattle.photos.specs.Photo.{imported, importMeans}
 use Rattle.desk.specs.declared.choice.Exposure.{Exposure}
 use Rattle.desk.specs.Choice.{chooseMeans}
 use Rattle.desk.proofs.Choices.{choose-refuses}
 use Rattle.embed.specs.Layout.{encoded, isRecord, decoded}
 use Rattle.embed.specs.Packed.{packed}
-use Rattle.embed.specs.Exports.{called, asBytes, noRecord, unread, resetBytes, readBytes, writeBytes, tickBytes, inspected, inspectBytes, filled, asDrawn, pictureBytes, asLine, recordBytes, asWritten, exportBytes, shadesBytes, placeBytes, asRead, importBytes, plainIn, exposureIn, chooseBytes}
+use Rattle.embed.specs.Exports.{called, asBytes, noRecord, unread, resetBytes, readBytes, writeBytes, tickBytes, inspected, inspectBytes, filled, asDrawn, pictureBytes, asLine, recordBytes, asWritten, exportBytes, shadesBytes, placeBytes, readingsBytes, asRead, importBytes, plainIn, exposureIn, chooseBytes}
 use Rattle.embed.proofs.Inverse.{encode-decode}
 
 -- what comes to a number is that refusal: for an outcome, the state given and every byte lent
@@ -268,6 +269,22 @@ module _ (s ram file : List ℕ) where
       ∙ ap (λ t. called (packed (writeNumber r) 0) t ram′ []) (sym (ap encoded e ∙ encode-decode s bytes h))
       ∙ ap asBytes (means ∙ ap (λ c. placeMeans c ram file) e)
       ∙ sym (place-done h)
+
+-- ---- the values of the held capture
+
+module _ (s store out : List ℕ) where
+  pub readings-unread : isRecord s ≡ false → readingsBytes s store out ≡ filled noRecord out
+  unfolding readingsBytes
+  readings-unread h = simp h
+
+  pub readings-done : isRecord s ≡ true → readingsBytes s store out ≡ asWritten (readingsMean (decoded s) store out)
+  unfolding readingsBytes
+  readings-done h = simp h
+
+  pub readings-written : isRecord s ≡ true → (d : Controller) (r : Output) (left : List ℕ) → d ≡ decoded s → exported (outputNumber r) (outputValue r) left ≡ readingsMean d store out
+      → (p : ℕ) → p ≡ packed (outputNumber r) (outputValue r) → filled p left ≡ readingsBytes s store out
+  readings-written h d r left e means p q =
+      written (readingsMean (decoded s) store out) r left (means ∙ ap (λ c. readingsMean c store out) e) p q ∙ sym (readings-done h)
 
 -- ---- a photograph
 

@@ -13,11 +13,12 @@ use Rattle.desk.proofs.Choices.{choose-refuses}
 use Rattle.plates.specs.Grey.{Exported, exported}
 use Rattle.plates.proofs.Exports.{inExported, export-refuses, shades-refuses}
 use Rattle.plates.proofs.Placed.{place-refuses}
+use Rattle.plates.proofs.Values.{readings-refuse}
 use Rattle.embed.specs.Layout.{encoded, isRecord, decoded}
-use Rattle.embed.specs.Exports.{Called, asBytes, unread, writeBytes, tickBytes, plainIn, exposureIn, chooseBytes, exportBytes, shadesBytes, placeBytes}
+use Rattle.embed.specs.Exports.{Called, asBytes, unread, writeBytes, tickBytes, plainIn, exposureIn, chooseBytes, exportBytes, shadesBytes, placeBytes, readingsBytes}
 use Rattle.embed.proofs.Inverse.{encode-decode}
-use Rattle.embed.proofs.Cases.{kept, write-unread, write-done, tick-unread, tick-done, choose-unread, choose-done, place-unread, place-done}
-use Rattle.embed.proofs.Only.{Says, write-says, tick-says, choose-says, place-says, export-says, shades-says}
+use Rattle.embed.proofs.Cases.{kept, write-unread, write-done, tick-unread, tick-done, choose-unread, choose-done, place-unread, place-done, readings-unread, readings-done}
+use Rattle.embed.proofs.Only.{Says, write-says, tick-says, choose-says, place-says, export-says, shades-says, readings-says}
 
 pub record Keeps (c : Called) (s m f : List ℕ) : Type 0 where
   pub state : c .state ≡ s
@@ -68,3 +69,9 @@ export-kept ram out some = written-kept (export-refuses ram out) (λ z. some (z 
 pub shades-kept : (ram out : List ℕ) → (0 ≡ shadesBytes ram out .answer / 4294967296 → ⊥) → shadesBytes ram out .bytes ≡ out
 unfolding shadesBytes
 shades-kept ram out some = written-kept (shades-refuses ram out) (λ z. some (z ∙ sym (shades-says ram out .number)))
+
+pub readings-kept : (s store out : List ℕ) → (0 ≡ readingsBytes s store out .answer / 4294967296 → ⊥) → readingsBytes s store out .bytes ≡ out
+readings-kept s store out some =
+    either (isRecord s)
+    (λ h. rw (readings-done s store out h) (written-kept (readings-refuse (decoded s) store out) (λ z. some (z ∙ sym (readings-says s store out h .number)))))
+    (λ h. rw (readings-unread s store out h) refl)

@@ -26,14 +26,16 @@ use Rattle.plates.specs.Grey.{Exported, exported, exportMeans}
 use Rattle.plates.specs.Shades.{shadesMeans}
 use Rattle.plates.specs.Placing.{placeMeans}
 use Rattle.plates.proofs.Exports.{inExported, export-refuses, shades-refuses}
+use Rattle.plates.specs.Readings.{readingsMean}
 use Rattle.plates.proofs.Placed.{place-refuses}
+use Rattle.plates.proofs.Values.{readings-refuse}
 use Rattle.photos.specs.Photo.{importMeans}
 use Rattle.desk.specs.Choice.{chooseMeans}
 use Rattle.desk.proofs.Choices.{choose-refuses}
 use Rattle.embed.specs.Layout.{isRecord, decoded}
 use Rattle.embed.specs.Packed.{packed}
-use Rattle.embed.specs.Exports.{readBytes, writeBytes, tickBytes, elementValue, inspectBytes, recordBytes, exportBytes, shadesBytes, placeBytes, importBytes, plainIn, exposureIn, chooseBytes}
-use Rattle.embed.proofs.Cases.{read-done, write-done, tick-done, inspect-done, choose-done, place-done}
+use Rattle.embed.specs.Exports.{readBytes, writeBytes, tickBytes, elementValue, inspectBytes, recordBytes, exportBytes, shadesBytes, placeBytes, readingsBytes, importBytes, plainIn, exposureIn, chooseBytes}
+use Rattle.embed.proofs.Cases.{read-done, write-done, tick-done, inspect-done, choose-done, place-done, readings-done}
 
 -- the number stands above 2^32, and the value below
 pub record Says (answer n v : ℕ) : Type 0 where
@@ -139,6 +141,10 @@ shades-says ram out = packed-says _ _ (written-small (shades-refuses ram out) (o
 -- a placing's answer
 pub place-says : (s ram file : List ℕ) → isRecord s ≡ true → Says (placeBytes s ram file .answer) (placeMeans (decoded s) ram file .number) (placeMeans (decoded s) ram file .value)
 place-says s ram file h = rw (place-done s ram file h) (packed-says _ _ (small (place-refuses (decoded s) ram file) (omega arith)))
+
+-- that of the readings
+pub readings-says : (s store out : List ℕ) → isRecord s ≡ true → Says (readingsBytes s store out .answer) (readingsMean (decoded s) store out .number) (readingsMean (decoded s) store out .value)
+readings-says s store out h = rw (readings-done s store out h) (packed-says _ _ (written-small (readings-refuse (decoded s) store out) (omega arith)))
 
 -- a photograph's answer
 pub import-says : (file image : List ℕ) → Says (importBytes file image .answer) (importMeans file image .number) 0

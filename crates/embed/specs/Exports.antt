@@ -16,6 +16,7 @@ use Rattle.lines.specs.Record.{Recording, recordMeans}
 use Rattle.plates.specs.Grey.{Exported, exportMeans}
 use Rattle.plates.specs.Shades.{shadesMeans}
 use Rattle.plates.specs.Placing.{placeMeans}
+use Rattle.plates.specs.Readings.{readingsMean}
 use Rattle.photos.specs.Photo.{Imported, importMeans}
 use Rattle.desk.specs.declared.choice.Exposure.{Exposure}
 use Rattle.desk.specs.declared.choice.Exposure.the-variants.{Named, Unnamed}
@@ -120,6 +121,10 @@ shadesBytes ram out = asWritten (shadesMeans ram out)
 -- a plate's file back into the picture area
 unfoldable pub placeBytes : List ℕ → List ℕ → List ℕ → Called
 placeBytes s ram file = pick (isRecord s) (asBytes (placeMeans (decoded s) ram file)) (unread s ram [])
+
+-- the values of the held capture as a grey image
+unfoldable pub readingsBytes : List ℕ → List ℕ → List ℕ → Filled
+readingsBytes s store out = pick (isRecord s) (asWritten (readingsMean (decoded s) store out)) (filled noRecord out)
 
 -- a photograph read into a lent image
 abbrev pub asRead : Imported → Filled

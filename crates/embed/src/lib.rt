@@ -24,10 +24,11 @@ use layout::wide;
 use photos::photo::import;
 use plates::grey::export;
 use plates::placing::place;
+use plates::readings::readings;
 use plates::shades::shades;
 ghost use mathlib.Core.Path.{_≡_};
 ghost use mathlib.Core.List.{[]};
-ghost use Rattle.embed.specs.Exports.{called, resetBytes, readBytes, writeBytes, tickBytes, inspectBytes, filled, pictureBytes, exportBytes, shadesBytes, placeBytes, importBytes, exposureIn, chooseBytes};
+ghost use Rattle.embed.specs.Exports.{called, resetBytes, readBytes, writeBytes, tickBytes, inspectBytes, filled, pictureBytes, exportBytes, shadesBytes, placeBytes, readingsBytes, importBytes, exposureIn, chooseBytes};
 
 // Writes the reset record.
 #[no_mangle]
@@ -199,6 +200,17 @@ pub extern "C" fn gulxinett_place(state: &[u8], ram: &mut [u8], file: &[u8]) -> 
         return refused(Refusal::State);
     }
     done_answer(place(decode(state), ram, file))
+}
+
+// Writes the values of the held capture, before the matrix made shades of them, as a grey image.
+#[no_mangle]
+pub extern "C" fn gulxinett_readings(state: &[u8], store: &[u8], out: &mut [u8]) -> u64
+    ensures { λ r. ⌜ filled r (now (out .exit)) ≡ readingsBytes (now (state .entry)) (now (store .entry)) (now (out .entry)) ⌝ }
+{
+    if !is_record(state) {
+        return refused(Refusal::State);
+    }
+    output_answer(readings(decode(state), store, out))
 }
 
 // Reads a photograph, a Netpbm file of kind P6, into an image.
