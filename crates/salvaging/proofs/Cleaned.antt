@@ -39,12 +39,12 @@ within-first zero lines = within-none lines
 within-first (suc n) [] = none
 within-first (suc n) (line ∷ lines) = kept line (within-first n lines)
 
--- the accepted lines are a subsequence of the lines
-pub accepted-within : (lines : List (List ℕ)) → Within (acceptedOf lines) lines
+accepted-within : (n : ℕ) (lines : List (List ℕ)) → Within (take n (acceptedOf lines)) lines
 unfolding acceptedOf
-accepted-within [] = none
-accepted-within (line ∷ lines) =
-    either (accepted line) (λ t. simp t (kept line (accepted-within lines))) (λ f. simp f (dropped line (accepted-within lines)))
+accepted-within zero lines = within-none lines
+accepted-within (suc n) [] = none
+accepted-within (suc n) (line ∷ lines) =
+    either (accepted line) (λ t. simp t (kept line (accepted-within n lines))) (λ f. simp f (dropped line (accepted-within (suc n) lines)))
 
 -- what is kept of accepted lines are the first of them
 first-halved : (lines w : List (List ℕ)) → w ≡ take (length w) lines → halved w ≡ take (length (halved w)) lines
@@ -66,6 +66,11 @@ pub kept-within : (lines : List (List ℕ)) → Within (salvaged lines) (accepte
 unfolding salvaged
 kept-within lines =
     rw (first-kept (acceptedOf lines)) (within-first (length (unrepeated (acceptedOf lines))) (acceptedOf lines))
+
+-- and of the lines of the script: none is added, and none is altered
+pub never-added : (lines : List (List ℕ)) → Within (salvaged lines) lines
+unfolding salvaged
+never-added lines = rw (first-kept (acceptedOf lines)) (accepted-within (length (unrepeated (acceptedOf lines))) lines)
 
 -- ---- every line accepted
 
@@ -194,7 +199,7 @@ end-longer (b ∷ (c ∷ rest)) = omega (arith, end-longer (c ∷ rest))
 pub cleaned-long : (script : List ℕ) → length (cleaned script) ≤ length script + 1
 unfolding cleaned
 cleaned-long script =
-    omega (arith, within-text (kept-within (linesOf script)), within-text (accepted-within (linesOf script)), ap length (lines-text script), end-longer script)
+    omega (arith, within-text (never-added (linesOf script)), ap length (lines-text script), end-longer script)
 
 -- there are no more lines than bytes
 begun-lines : (b : ℕ) (lines : List (List ℕ)) → length (begins b lines) ≤ suc (length lines)

@@ -5,24 +5,6 @@ use Rattle.salvaging.specs.Kept.{isReset}
 use Rattle.salvaging.proofs.twice.is_reset.Statement.{statement}
 use Rattle.salvaging.proofs.twice.is_reset.Tie as tie
 
-returns : tie.Need-returns
-returns c = ap isReset (sym (c .enum-told .given .1) ∙ c .before .before .frame-of .ensures)
-
-returns-2 : tie.Need-returns-2
-returns-2 c = ap isReset (sym (c .enum-told2 .given .1) ∙ c .before .before .frame-of .ensures)
-
-returns-3 : tie.Need-returns-3
-returns-3 c = ap isReset (sym (c .enum-told3 .given .1) ∙ c .before .before .frame-of .ensures)
-
-returns-4 : tie.Need-returns-4
-returns-4 c = ap isReset (sym (c .enum-told4 .given .1) ∙ c .before .before .frame-of .ensures)
-
-returns-5 : tie.Need-returns-5
-returns-5 c = ap isReset (sym (c .enum-told5 .given .1) ∙ c .before .before .frame-of .ensures)
-
-returns-6 : tie.Need-returns-6
-returns-6 c = ap isReset (sym (c .enum-told6 .given .1) ∙ c .before .before .frame-of .ensures)
-
 pub is-reset-spec : {M : Type 1} → statement M
 is-reset-spec =
     tie.close
@@ -34,9 +16,9 @@ is-reset-spec =
     (λ c. search needs)
     (λ c. search needs)
     (λ c. search needs)
-    returns
-    returns-2
-    returns-3
-    returns-4
-    returns-5
-    returns-6)
+    (λ c. ap isReset (sym (c .enum-told .given .1) ∙ c .before .before .frame-of .ensures))
+    (λ c. ap isReset (sym (c .enum-told2 .given .1) ∙ c .before .before .frame-of .ensures))
+    (λ c. ap isReset (sym (c .enum-told3 .given .1) ∙ c .before .before .frame-of .ensures))
+    (λ c. ap isReset (sym (c .enum-told4 .given .1) ∙ c .before .before .frame-of .ensures))
+    (λ c. ap isReset (sym (c .enum-told5 .given .1) ∙ c .before .before .frame-of .ensures))
+    (λ c. ap isReset (sym (c .enum-told6 .given .1) ∙ c .before .before .frame-of .ensures)))
