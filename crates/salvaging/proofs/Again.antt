@@ -1,14 +1,13 @@
 -- A cleaned script salvaged once more: the whole outcome. Assumes nothing.
-use mathlib.Core.Path.{_≡_, sym, ap, _∙_}
+use mathlib.Core.Path.{_≡_, _∙_}
 use mathlib.Core.List.{List}
 use Prim.Native.Nat.{ℕ, _≤_}
-use native.Mathlib.Omega.{arith}
 use lib.ListN.{length, replicate}
 use borrow.Author.Tests.{le-ltb}
 use Rattle.controller.specs.Table.{lowest}
 use Rattle.lines.specs.Hex.{placed}
 use Rattle.script.specs.Text.{linesOf}
-use Rattle.salvaging.specs.Kept.{salvaged, reportOf}
+use Rattle.salvaging.specs.Kept.{salvaged}
 use Rattle.salvaging.specs.Salvage.{cleaned, salvaging, salvageDone, salvageMeans}
 use Rattle.salvaging.proofs.Outcomes.{roomRows, salvage-short}
 use Rattle.salvaging.proofs.Cleaned.{cleaned-lines, cleaned-again, report-again}

@@ -1,7 +1,7 @@
 -- What a salvage keeps: accepted lines, unaltered and in order; and a second salvage changes nothing. Assumes nothing.
-use mathlib.Core.Path.{_≡_, refl, sym, ap, subst, _∙_}
+use mathlib.Core.Path.{_≡_, refl, sym, ap, _∙_}
 use mathlib.Core.Bool.{true, false}
-use mathlib.Core.List.{List, [], _∷_, _++_}
+use mathlib.Core.List.{List, [], _∷_}
 use Prim.Native.Nat.{ℕ, zero, suc, _+_, _-_, _/_, _<_, _≤_}
 use native.Mathlib.Omega.{arith}
 use lib.Dec.{eqb}
@@ -12,12 +12,12 @@ use Rattle.laws.specs.Pick.{pick}
 use Rattle.laws.specs.Iter.{iter-keeps}
 use Rattle.laws.proofs.Bools.{either}
 use Rattle.laws.proofs.Pick.{pick-ind, never}
-use Rattle.lines.specs.Line.{hexPart, frameOf}
+use Rattle.lines.specs.Line.{hexPart}
 use Rattle.lines.specs.Record.{ended}
 use Rattle.lines.proofs.Frames.{bad}
 use Rattle.script.specs.Text.{begins, linesOf}
 use Rattle.script.proofs.Replayed.{endless, line-ends}
-use Rattle.salvaging.specs.Kept.{isFrame, accepted, acceptedOf, earlier, doubled, halved, unrepeated, salvaged, textOf, markOf, leftAfter, marks, reportOf}
+use Rattle.salvaging.specs.Kept.{isFrame, accepted, acceptedOf, doubled, halved, unrepeated, salvaged, textOf, markOf, leftAfter, marks, reportOf}
 use Rattle.salvaging.specs.Salvage.{cleaned}
 use Rattle.salvaging.proofs.Walks.{lines-next}
 use Rattle.salvaging.proofs.Turns.{halves-kept, whole-kept, none-left, stays}

@@ -13,11 +13,11 @@ use Rattle.laws.proofs.Order.{split}
 use Rattle.laws.proofs.Pick.{never}
 use Rattle.controller.specs.Table.{Row, noRoom, before, lowest, judged}
 use Rattle.controller.proofs.Only.{only-number, some-number}
-use Rattle.controller.proofs.Refusals.{Refuses, Given, refuses, rowHolds, risingFrom, first-fails}
+use Rattle.controller.proofs.Refusals.{Refuses, refuses, rowHolds, risingFrom, first-fails}
 use Rattle.script.specs.Text.{linesOf}
 use Rattle.salvaging.specs.declared.Salvaged.{Salvaged}
 use Rattle.salvaging.specs.declared.Salvaged.the-variants as answers
-use Rattle.salvaging.specs.Salvage.{cleaned, textShort, reportShort, salvageRows, Salvaging, salvaging, unsalvaged, salvageDone, salvageMeans, salvagedAs}
+use Rattle.salvaging.specs.Salvage.{cleaned, textShort, reportShort, salvageRows, Salvaging, unsalvaged, salvageDone, salvageMeans, salvagedAs}
 
 -- the rows of the two buffers
 unfoldable pub roomRows : List ℕ → List ℕ → List ℕ → List Row

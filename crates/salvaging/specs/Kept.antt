@@ -28,7 +28,7 @@ unfoldable pub acceptedOf : List (List ℕ) → List (List ℕ)
 acceptedOf [] = []
 acceptedOf (line ∷ lines) = pick (accepted line) (line ∷ acceptedOf lines) (acceptedOf lines)
 
--- lines that start with reset
+-- the first line says reset
 abbrev pub isReset : Frame → Bool
 isReset Reset = true
 isReset (Read a) = false
@@ -88,10 +88,11 @@ abbrev pub keptOr : ℕ → ℕ
 keptOr zero = 2
 keptOr (suc n) = 0
 
--- a line: 1 malformed
+-- a line, accepted or not: 1 malformed
 unfoldable pub markOf : Bool → ℕ → ℕ
 markOf good n = pick good (keptOr n) 1
 
+-- how many are still to be kept after it
 unfoldable pub leftAfter : Bool → ℕ → ℕ
 leftAfter good n = pick good (n - 1) n
 

@@ -12,7 +12,7 @@ use Rattle.controller.specs.Table.{lowest}
 use Rattle.controller.proofs.Refusals.{Refuses, by-why, by-fits, fits-none}
 use Rattle.lines.specs.Hex.{placed}
 use Rattle.script.specs.Text.{linesOf}
-use Rattle.salvaging.specs.Kept.{salvaged, textOf, marks, reportOf}
+use Rattle.salvaging.specs.Kept.{textOf, marks, reportOf}
 use Rattle.salvaging.specs.Salvage.{cleaned, salvaging, unsalvaged, salvageDone, salvageMeans}
 use Rattle.salvaging.specs.Places.{acceptedAt}
 use Rattle.salvaging.proofs.Outcomes.{roomRows, inSalvaging, room-judged, salvage-long, salvage-short, salvage-fits}

@@ -1,5 +1,5 @@
 -- `salvage::place::count_lines` meets its contract: the invariant is that the lines counted and those left are all. Assumes nothing.
-use mathlib.Core.Path.{_≡_, refl, ap}
+use mathlib.Core.Path.{_≡_, ap}
 use Prim.Native.Nat.{_≤_, _+_, _-_}
 use native.Mathlib.Omega.{arith}
 use lib.ListN.{length}

@@ -1,6 +1,5 @@
 -- `salvage::put::left_after` meets its contract: its tests are the definition's. Assumes nothing.
 use native.Mathlib.Omega.{arith}
-use borrow.Author.Needs.{needs}
 use borrow.Author.Tests.{not-true, not-false}
 use Rattle.salvaging.specs.Kept.{leftAfter}
 use Rattle.salvaging.proofs.put.left_after.Statement.{statement}

@@ -1,5 +1,5 @@
 -- `salvage::put::text_length` meets its contract: the invariant is that the length so far and the length of the lines left are the whole. Assumes nothing.
-use mathlib.Core.Path.{_≡_, refl, sym, ap, _∙_}
+use mathlib.Core.Path.{_≡_, ap}
 use Prim.Native.Nat.{_≤_, _+_, _-_}
 use native.Mathlib.Omega.{arith}
 use lib.ListN.{length, take}

@@ -1,5 +1,5 @@
 -- `salvage::twice::kept` meets its contract: the invariant is that what is kept of the lines left is what is kept of all. Assumes nothing.
-use mathlib.Core.Path.{_≡_, refl, sym, ap, _∙_}
+use mathlib.Core.Path.{_≡_, sym, ap, _∙_}
 use Prim.Native.Nat.{_≤_}
 use native.Mathlib.Omega.{arith}
 use lib.ListN.{length, take}
