@@ -18,7 +18,7 @@ use Rattle.timing.specs.Timing.{nSet, totalOf, readingFrom, rowsRead, firstRow,
 use Rattle.tiles.specs.Tiles.{Bytes, putAt}
 use Rattle.laws.specs.Lists.{packed}
 use Rattle.timing.specs.Bulk.{pictureFrom, doneBy}
-use Rattle.figures.specs.Figures.{Figure, Agree, table, firstCycle, shown, changed}
+use Rattle.starred.specs.Figures.{Figure, Agree, table, firstCycle, shown, changed}
 
 -- the test of two numbers with signs
 same : ℤ → ℤ → Bool

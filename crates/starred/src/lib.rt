@@ -1,0 +1,1 @@
+// The checked figures that carry a star: one proved table. No code.
