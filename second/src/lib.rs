@@ -2,10 +2,10 @@
 //!
 //! [`State`] is the record the controller keeps; ROM, RAM, image and frame store are lent as slices.
 //! [`read`], [`write`], [`tick`], [`inspect`] and [`picture`] are the calls, [`Session`] is the bus script,
-//! and [`Frame::write_line`] writes its lines. [`export`] makes a grey image of the picture area,
-//! [`place`] puts one back and [`shades`] reads the area; [`export_readings`] makes a grey image of
-//! the values before the dots, and [`import`] an image of a colour photograph. [`choose`] sets a
-//! contrast level by its number.
+//! [`Frame::write_line`] writes its lines and [`salvage()`] cleans it. [`export`] makes a grey image of
+//! the picture area, [`place`] puts one back and [`shades`] reads the area; [`export_readings`] makes a
+//! grey image of the values before the dots, and [`import`] an image of a colour photograph.
+//! [`choose`] sets a contrast level by its number.
 
 #![forbid(unsafe_code)]
 
@@ -18,6 +18,7 @@ mod levels;
 mod lines;
 mod picture;
 mod refusal;
+mod salvage;
 mod script;
 mod state;
 #[cfg(test)]
@@ -34,6 +35,7 @@ pub use picture::{
     picture, Plate, PICTURE_HEIGHT, PICTURE_WIDTH, PIXELS, PLATE_BYTES, PLATE_OFFSET,
 };
 pub use refusal::Refusal;
+pub use salvage::{salvage, Salvaged, LONGEST_SCRIPT};
 pub use script::{Frame, Session};
 pub use state::{State, LAYOUT, RECORD_BYTES, REGISTERS};
 

@@ -26,6 +26,8 @@ pub enum Refusal {
     Held = 10,
     /// No capture is held.
     NotHeld = 11,
+    /// A script is longer than can be cleaned.
+    Script = 12,
 }
 
 impl Refusal {

@@ -9,5 +9,6 @@ mod grey;
 mod lines;
 mod random;
 mod readings;
+mod salvage;
 mod slow;
 mod written;
