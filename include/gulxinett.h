@@ -31,6 +31,7 @@
  *   9  the light set of a choice is above 1, or its level above 15
  *  10  a capture is held, running or stopped
  *  11  no capture is held
+ *  12  a script is over 32,768 bytes
  *
  * The memory lent to one call must not overlap, and is not kept after the call.
  */
@@ -57,6 +58,9 @@ extern "C" {
 /* An image row, and the longest script line with its LF, which is a row's. */
 #define GULXINETT_ROW_LEN 128
 #define GULXINETT_LINE_LEN 261
+
+/* The most bytes of a script that is salvaged. */
+#define GULXINETT_SCRIPT_LEN 32768
 
 /* Bytes of stack below the caller's frame that suffice for any call here, compiled for x86-64, for
  * aarch64 or for the browser. No function here recurs, and what is large is lent; tests/stack works
@@ -172,6 +176,17 @@ uint64_t gulxinett_readings(const uint8_t *state, size_t state_len,
  * the image then stays as it is. Value 0. */
 uint64_t gulxinett_import_photo(const uint8_t *file, size_t file_len,
                                 uint8_t *image, size_t image_len);
+
+/* Salvages a bus script of at most GULXINETT_SCRIPT_LEN bytes: keeps the lines that are accepted, in order,
+ * and drops the malformed ones; where the lines kept are a sequence that starts with reset followed by
+ * itself, the later half is dropped, again until none is. No line is added or altered; a last
+ * line without LF gains one. text gets the lines kept, report one byte for each line of the script:
+ * 0 kept, 1 malformed, 2 accepted but dropped as repeated; bytes of both beyond stay. script_len + 1
+ * bytes of text and script_len of report always suffice. Refused as 12, then as 7 if either is too
+ * short. Value: the number of lines of the script * 65536 + the length of the text. */
+uint64_t gulxinett_salvage(const uint8_t *script, size_t script_len,
+                           uint8_t *text, size_t text_len,
+                           uint8_t *report, size_t report_len);
 
 #ifdef __cplusplus
 }

@@ -14,6 +14,7 @@ static uint8_t state[GULXINETT_STATE_LEN], rom[GULXINETT_ROM_BANK_LEN], ram[GULX
 static uint8_t store[GULXINETT_FRAME_LEN], image[GULXINETT_FRAME_LEN], picture[GULXINETT_PICTURE_LEN];
 static uint8_t line[GULXINETT_LINE_LEN], plate[GULXINETT_PLATE_LEN], shades[GULXINETT_SHADES_LEN];
 static uint8_t photograph[15 + 3 * GULXINETT_FRAME_LEN] = "P6\n128 128\n255\n";
+static uint8_t script[GULXINETT_SCRIPT_LEN], text[GULXINETT_SCRIPT_LEN + 1], report[GULXINETT_SCRIPT_LEN];
 static uint8_t room[ROOM];
 static ucontext_t here, there;
 
@@ -41,6 +42,20 @@ static void record(void)
     gulxinett_record_row(0x7F, image, GULXINETT_ROW_LEN, line, sizeof line);
 }
 
+/* A script of rows, twice, and one of resets alone. */
+static void salvage(void)
+{
+    size_t length = gulxinett_record_reset(script, sizeof script), copy;
+    for (uint8_t row = 0; row < 60; row++)
+        length += gulxinett_record_row(row, image, GULXINETT_ROW_LEN, script + length, sizeof script - length);
+    for (copy = 0; copy < length; copy++)
+        script[length + copy] = script[copy];
+    gulxinett_salvage(script, 2 * length, text, sizeof text, report, sizeof report);
+    for (length = 0; length < 8192 * 3;)
+        length += gulxinett_record_reset(script + length, sizeof script - length);
+    gulxinett_salvage(script, length, text, sizeof text, report, sizeof report);
+}
+
 /* A capture in each mode, some of it pixel by pixel, and every other call. */
 static void everything(void)
 {
@@ -65,6 +80,7 @@ static void everything(void)
         gulxinett_place(state, sizeof state, ram, sizeof ram, plate, sizeof plate);
         gulxinett_shades(ram, sizeof ram, shades, sizeof shades);
         gulxinett_import_photo(photograph, sizeof photograph, image, sizeof image);
+        salvage();
     }
 }
 

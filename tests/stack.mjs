@@ -27,6 +27,7 @@ for (let mode = 0; mode < 16; mode++) {
   cartridge.place();
   cartridge.shades();
   cartridge.importPhoto();
+  cartridge.salvage();
 }
 const used = stack - lowest();
 console.log(`stack: calls in every mode used ${used} bytes of the browser module's ${stack}; ${allowed} were worked out`);

@@ -4,6 +4,8 @@ import { readFileSync } from "node:fs";
 const SIZES = {
   state: 121, ram: 8192, store: 16384, image: 16384, registers: 54, picture: 3584, line: 261, plate: 14351, photograph: 15 + 3 * 16384,
 };
+/** What a script is salvaged from and into, which is no part of a cartridge. */
+const SCRIPT_SIZES = { script: 32768, text: 32769, report: 32768 };
 const PAGE = 65536;
 const TRIGGER = 0xa000;
 
@@ -24,15 +26,21 @@ export function lend(path) {
     at[name] = end;
     end += size;
   }
-  call.memory.grow(Math.max(0, Math.ceil((end - call.memory.buffer.byteLength) / PAGE)));
-  const view = (name) => new Uint8Array(call.memory.buffer, at[name], SIZES[name]);
+  let last = end;
+  for (const [name, size] of Object.entries(SCRIPT_SIZES)) {
+    at[name] = last;
+    last += size;
+  }
+  call.memory.grow(Math.max(0, Math.ceil((last - call.memory.buffer.byteLength) / PAGE)));
+  const sizes = { ...SIZES, ...SCRIPT_SIZES };
+  const view = (name) => new Uint8Array(call.memory.buffer, at[name], sizes[name]);
   view("image").forEach((_, place, image) => {
     image[place] = (place % 128) * 3 + Math.floor(place / 128) * 5 + ((place * place) % 61);
   });
 
   view("photograph").set(new TextEncoder().encode("P6\n128 128\n255\n"));
 
-  const lent = (...names) => names.flatMap((name) => [at[name], BigInt(SIZES[name])]);
+  const lent = (...names) => names.flatMap((name) => [at[name], BigInt(sizes[name])]);
   const cartridge = {
     size: bytes.length,
     memory: call.memory,
@@ -52,6 +60,11 @@ export function lend(path) {
     /** Takes the plate's room too. */
     readings: () => value(call.gulxinett_readings(...lent("state", "store", "plate"))),
     importPhoto: () => value(call.gulxinett_import_photo(...lent("photograph", "image"))),
+    /** A script of a reset and reads, eight times, and empty lines after it. */
+    salvage() {
+      view("script").fill(10).set(new TextEncoder().encode(("00\n" + "01A000\n".repeat(500)).repeat(8)));
+      return value(call.gulxinett_salvage(...lent("script", "text", "report")));
+    },
     /** A line of each kind. */
     record() {
       const room = lent("line");

@@ -23,6 +23,8 @@ export const PICTURE_OFFSET: 256;
 export const PLATE_BYTES: 14351;
 /** Bytes of a plate as shades: one for each of its pixels, 0 white to 3 black. */
 export const SHADES_BYTES: 14336;
+/** The most bytes of a script that is salvaged. */
+export const SCRIPT_BYTES: 32768;
 
 /**
  * A call that was refused; it changed nothing.
@@ -31,7 +33,7 @@ export const SHADES_BYTES: 14336;
  * or the frame store is not 16,384 bytes, 5 the address is outside 0000-7FFF and A000-BFFF, 6 a script line or
  * image row is malformed, 7 the room lent for what is written is too short, 8 the file is not one
  * that can be read, 9 the light set of a choice is above 1 or its level above 15, 10 a capture is held, running
- * or stopped, 11 no capture is held.
+ * or stopped, 11 no capture is held, 12 a script is over 32,768 bytes.
  */
 export class Refusal extends Error {
   constructor(number: number, sentence?: string);
@@ -53,6 +55,14 @@ export interface Save {
 export interface Element {
   row: number;
   column: number;
+}
+
+/** A bus script that was salvaged. */
+export interface Salvaged {
+  /** The lines that were kept, each with its LF. */
+  text: Uint8Array;
+  /** A byte for each line of the script: 0 kept, 1 malformed, 2 accepted but dropped as repeated. */
+  report: Uint8Array;
 }
 
 /** What a new cartridge is given, all of it copied. */
@@ -151,6 +161,11 @@ export interface Gulxinett {
   Cartridge: CartridgeClass;
   /** The whole picture of a frame under 54 registers taken, as RAM bank 0 gets it from offset 100h on. */
   picture(frame: Bytes, registers: Bytes): Uint8Array;
+  /**
+   * Keeps the accepted lines of a bus script of at most 32,768 bytes, in order and unaltered; where they are a sequence that
+   * starts with reset followed by itself, one half of them, again until they are not. A last line without LF gains one.
+   */
+  salvage(script: Bytes): Salvaged;
 }
 
 /**

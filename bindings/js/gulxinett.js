@@ -25,6 +25,8 @@ export const PICTURE_OFFSET = 0x100;
 export const PLATE_BYTES = 14_351;
 /** Bytes of a plate as shades: one for each of its pixels, 0 white to 3 black. */
 export const SHADES_BYTES = 14_336;
+/** The most bytes of a script that is salvaged. */
+export const SCRIPT_BYTES = 32_768;
 
 /** The exposure that names none. */
 const UNNAMED = 0x1_0000;
@@ -51,6 +53,7 @@ const SENTENCES = {
   9: "the light set is above 1 or the level above 15",
   10: "a capture is held, running or stopped",
   11: "no capture is held, running or stopped",
+  12: "the script is over 32,768 bytes",
 };
 
 /** A call that was refused, by its number; it changed nothing. */
@@ -110,7 +113,7 @@ async function download(source) {
   return answer.arrayBuffer();
 }
 
-/** What is called on a module: one `Cartridge` class and `picture`, over its memory. */
+/** What is called on a module: one `Cartridge` class, `picture` and `salvage`, over its memory. */
 function bound(exports) {
   const memory = new Memory(exports.memory, exports.__heap_base.value);
 
@@ -139,6 +142,16 @@ function bound(exports) {
     return withCopies(named, ({ frame, registers, area }) => {
       valueOf(exports.gulxinett_picture(...lent(frame), registers.address, area.address));
       return area.bytes.slice();
+    });
+  }
+
+  /** The accepted lines of a bus script, a repetition once, and a byte about each of its lines. */
+  function salvage(script) {
+    const lines = bytesOf("the script", script);
+    const named = { script: lines, text: new Uint8Array(lines.length + 1), report: new Uint8Array(lines.length) };
+    return withCopies(named, ({ script, text, report }) => {
+      const value = valueOf(exports.gulxinett_salvage(...lent(script, text, report)));
+      return { text: text.bytes.slice(0, value & 0xffff), report: report.bytes.slice(0, value >>> 16) };
     });
   }
 
@@ -378,7 +391,7 @@ function bound(exports) {
     }
   }
 
-  return { Cartridge, picture };
+  return { Cartridge, picture, salvage };
 }
 
 /** Pieces as the functions take them: address and length of each. */

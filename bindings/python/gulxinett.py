@@ -35,6 +35,8 @@ PICTURE_OFFSET = 0x100
 PLATE_BYTES = 14_351
 #: Bytes of a plate as shades: one for each of its pixels, 0 white to 3 black.
 SHADES_BYTES = 14_336
+#: The most bytes of a script that is salvaged.
+SCRIPT_BYTES = 32_768
 
 # The exposure that names none.
 _UNNAMED = 0x1_0000
@@ -66,6 +68,7 @@ _SENTENCES = {
     9: "the light set is above 1 or the level above 15",
     10: "a capture is held, running or stopped",
     11: "no capture is held, running or stopped",
+    12: "the script is over 32,768 bytes",
 }
 
 # What each function is given: lent memory is a place and a length, a bare place has a length that is settled.
@@ -89,6 +92,7 @@ _FUNCTIONS = {
     "shades": _LENT * 2,
     "readings": _LENT * 3,
     "import_photo": _LENT * 2,
+    "salvage": _LENT * 3,
 }
 
 
@@ -117,6 +121,14 @@ class Element(NamedTuple):
 
     row: int
     column: int
+
+
+class Salvaged(NamedTuple):
+    """A bus script that was salvaged: the lines kept, each with its LF, and a byte for each line of the script: 0 kept,
+    1 malformed, 2 accepted but dropped as repeated."""
+
+    text: bytes
+    report: bytes
 
 
 # The functions of the library by their short names, once it is loaded.
@@ -223,6 +235,16 @@ def picture(frame, registers):
     area = (ctypes.c_ubyte * PICTURE_BYTES)()
     _call("picture", *_lent(frame), registers, area)
     return bytes(area)
+
+
+def salvage(script):
+    """Keeps the accepted lines of a bus script of at most 32,768 bytes, in order and unaltered; where they are a sequence
+    that starts with reset followed by itself, one half of them, again until they are not. A last line without LF gains
+    one."""
+    script = _memory("the script", script)
+    text, report = (ctypes.c_ubyte * (len(script) + 1))(), (ctypes.c_ubyte * len(script))()
+    lines, length = divmod(_call("salvage", *_lent(script, text, report)), 0x1_0000)
+    return Salvaged(bytes(text[:length]), bytes(report[:lines]))
 
 
 class _Recorder:

@@ -14,8 +14,8 @@ from pathlib import Path
 
 import gulxinett
 from gulxinett import (
-    FRAME_BYTES, LAYOUT, PICTURE_BYTES, RAM_BANK, REGISTERS, ROM_BANK, SHADES_BYTES, STATE_BYTES, Cartridge, Refusal, layout_of,
-    picture,
+    FRAME_BYTES, LAYOUT, PICTURE_BYTES, RAM_BANK, REGISTERS, ROM_BANK, SCRIPT_BYTES, SHADES_BYTES, STATE_BYTES, Cartridge, Refusal,
+    Salvaged, layout_of, picture, salvage,
 )
 
 ROOT = Path(__file__).resolve().parents[2]
@@ -180,6 +180,49 @@ class Recording(unittest.TestCase):
             cartridge.lend(image)
             due = b"0300000001\n" + row_lines(image, range(128)) + b"02000000\n02000001\n"
             self.assertEqual(cartridge.recording(), due)
+
+
+class Salvage(unittest.TestCase):
+    def test_scripts_with_broken_lines_and_twice(self):
+        for script, text, report in (
+            (b"", b"", ()),
+            (b"\n", b"", (1,)),
+            (b"00", b"00\n", (0,)),
+            (b"00\nxx\n01a000\n\n01A000", b"00\n01A000\n", (0, 1, 1, 1, 0)),
+            (b"00\n01A000\n00\n01A000", b"00\n01A000\n", (0, 0, 2, 2)),
+            # the later halves are dropped, until none is left
+            (b"00\n00\n00\n00\n", b"00\n", (0, 2, 2, 2)),
+            (b"00\n00\n00\n", b"00\n00\n00\n", (0, 0, 0)),
+            # halves that don't start with reset are no copies of a script
+            (b"018000\n018000\n", b"018000\n018000\n", (0, 0)),
+        ):
+            self.assertEqual(salvage(script), Salvaged(text, bytes(report)), script)
+
+    def test_recordings_uploaded_twice(self):
+        cartridge = Cartridge()
+        cartridge.record()
+        cartridge.reset()
+        cartridge.lend(frame(1))
+        recording = cartridge.recording()
+        some = recording[: 3 + 59 * 261]
+        # a row that broke off, and a last LF that was lost
+        twice = some + recording[-100:] + some[:-1]
+        report = b"\0" * 60 + b"\1" + b"\2" * 60
+        for kind in (bytes, bytearray, memoryview):
+            self.assertEqual(salvage(kind(twice)), Salvaged(some, report))
+        self.assertEqual(salvage(some), Salvaged(some, bytes(60)))
+
+    def test_scripts_of_the_most_bytes(self):
+        self.assertEqual(salvage(b"\n" * SCRIPT_BYTES), Salvaged(b"", b"\1" * SCRIPT_BYTES))
+        # 13 halvings
+        self.assertEqual(salvage(b"00\n" * 8192), Salvaged(b"00\n", b"\0" + b"\2" * 8191))
+        for length in (SCRIPT_BYTES + 1, 1_000_000):
+            with self.assertRaisesRegex(Refusal, "the script is over 32,768 bytes") as refused:
+                salvage(b"\n" * length)
+            self.assertEqual(refused.exception.number, 12)
+        for none in (None, "00", 3, [48, 48]):
+            with self.assertRaisesRegex(TypeError, "the script must be bytes"):
+                salvage(none)
 
 
 class Calls(unittest.TestCase):

@@ -8,10 +8,10 @@ import { fileURLToPath } from "node:url";
 import * as gulxinett from "../gulxinett.js";
 import { Memory } from "../memory.js";
 
-const { FRAME_BYTES, LAYOUT, PICTURE_BYTES, PLATE_BYTES, RAM_BANK, REGISTERS, ROM_BANK, Refusal, SHADES_BYTES, STATE_BYTES, layoutOf, load } = gulxinett;
+const { FRAME_BYTES, LAYOUT, PICTURE_BYTES, PLATE_BYTES, RAM_BANK, REGISTERS, ROM_BANK, Refusal, SCRIPT_BYTES, SHADES_BYTES, STATE_BYTES, layoutOf, load } = gulxinett;
 const place = new URL("../gulxinett.wasm", import.meta.url);
 const bytes = readFileSync(place);
-const { Cartridge, picture } = await load();
+const { Cartridge, picture, salvage } = await load();
 
 const TOTAL = 32_958 + 16 * 0x80;
 const registers = Uint8Array.from({ length: REGISTERS }, (_, n) => (n < 6 ? [3, 0, 0, 0x80, 0, 0][n] : 0x40 + 0x20 * (n % 3) + n));
@@ -368,6 +368,43 @@ function recorderNotAtTheBeginning(image, restored) {
   }
 }
 
+/** Scripts salvaged: broken lines and repetitions dropped, each line reported; a script too long, and what is none. */
+function salvages() {
+  const cleans = (script, text, report) => {
+    const { text: kept, report: about } = salvage(script);
+    assert.equal(Buffer.from(kept).toString(), text);
+    assert.equal(about.join(""), report);
+  };
+  const some = [
+    ["", "", ""],
+    ["\n", "", "1"],
+    ["00", "00\n", "0"],
+    ["00\nxx\n01a000\n\n01A000", "00\n01A000\n", "01110"],
+    ["00\n01A000\n00\n01A000", "00\n01A000\n", "0022"],
+    // the later halves are dropped, until none is left
+    ["00\n00\n00\n00\n", "00\n", "0222"],
+    ["00\n00\n00\n", "00\n00\n00\n", "000"],
+    // halves that don't start with reset are no copies of a script
+    ["018000\n018000\n", "018000\n018000\n", "00"],
+  ];
+  for (const [script, ...due] of some) cleans(Buffer.from(script), ...due);
+  const cartridge = new Cartridge();
+  cartridge.record();
+  cartridge.reset();
+  cartridge.lend(frame(1));
+  const recording = Buffer.from(cartridge.recording()).toString();
+  cartridge.close();
+  // a row that broke off, and a last LF that was lost
+  const rows = recording.slice(0, 3 + 59 * 261);
+  const twice = Uint8Array.from(Buffer.from(rows + recording.slice(-100) + rows.slice(0, -1)));
+  for (const script of [twice, new Uint8ClampedArray(twice), twice.buffer]) cleans(script, rows, `${"0".repeat(60)}1${"2".repeat(60)}`);
+  cleans(new Uint8Array(SCRIPT_BYTES).fill(10), "", "1".repeat(SCRIPT_BYTES));
+  cleans(Buffer.from("00\n".repeat(8192)), "00\n", `0${"2".repeat(8191)}`);
+  for (const length of [SCRIPT_BYTES + 1, 1_000_000]) refused(12, () => salvage(new Uint8Array(length).fill(10)));
+  for (const none of [undefined, null, "00", 3, [48, 48]]) throws(TypeError, "the script must be a Uint8Array", () => salvage(none));
+  say(`${some.length + 5} scripts salvaged, one of them a recording uploaded twice; 7 that are none turned away`);
+}
+
 /** Many cartridges in one module, so that its memory grows while captures run. */
 function sideBySide() {
   const many = Array.from({ length: 40 }, (_, number) => {
@@ -430,7 +467,7 @@ async function nothingLost() {
     memory = instance.exports.memory;
     return instance;
   };
-  const { Cartridge, picture } = await load();
+  const { Cartridge, picture, salvage } = await load();
   WebAssembly.instantiate = instantiate;
   const save = new Cartridge().save();
   const [good, bad] = [new Uint8Array(2 * ROM_BANK), new Uint8Array(3 * ROM_BANK)];
@@ -442,10 +479,12 @@ async function nothingLost() {
     throws(TypeError, "the save's ram", () => Cartridge.restore({ ...save, ram: [] }));
     picture(save.store, registers);
     refused(4, () => picture(bad, registers));
+    salvage(good);
+    refused(12, () => salvage(bad));
     if (round === 0) most = memory.buffer.byteLength;
   }
   assert.equal(memory.buffer.byteLength, most);
-  say(`200 rounds of cartridges closed or refused and pictures drawn or refused, in ${most} bytes of memory`);
+  say(`200 rounds of cartridges closed or refused, and of pictures and salvages, in ${most} bytes of memory`);
 }
 
 function badCalls() {
@@ -606,6 +645,7 @@ readings();
 photographs();
 choices();
 recorder();
+salvages();
 sideBySide();
 memory();
 await nothingLost();

@@ -18,7 +18,7 @@ impl Answer {
     pub fn result(self) -> Result<u32, Refusal> {
         match (self.0 >> 32) as u32 {
             0 => Ok(self.0 as u32),
-            number => Err(Refusal::from_number(number).expect("a refusal is 1 to 11")),
+            number => Err(Refusal::from_number(number).expect("a refusal is 1 to 12")),
         }
     }
 }
@@ -220,5 +220,23 @@ pub fn import_photo(file: &[u8], image: &mut [u8]) -> Answer {
     // SAFETY: each pointer and length are those of one slice, and the mutable one is apart.
     Answer(unsafe {
         ffi::gulxinett_import_photo(file.as_ptr(), file.len(), image.as_mut_ptr(), image.len())
+    })
+}
+
+/// Writes the lines of a bus script that are kept, and a byte about each of its lines; the value is the
+/// number of lines × 65,536 + the length of the text. Bytes of `text` and `report` beyond them stay. A
+/// longer script than 32,768 bytes is refused as [`Refusal::Script`], a shorter `text` or `report` as
+/// [`Refusal::Room`].
+pub fn salvage(script: &[u8], text: &mut [u8], report: &mut [u8]) -> Answer {
+    // SAFETY: each pointer and length are those of one slice, and the mutable ones are apart.
+    Answer(unsafe {
+        ffi::gulxinett_salvage(
+            script.as_ptr(),
+            script.len(),
+            text.as_mut_ptr(),
+            text.len(),
+            report.as_mut_ptr(),
+            report.len(),
+        )
     })
 }

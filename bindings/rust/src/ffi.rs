@@ -98,4 +98,13 @@ extern "C" {
         image: *mut u8,
         image_len: usize,
     ) -> u64;
+
+    pub fn gulxinett_salvage(
+        script: *const u8,
+        script_len: usize,
+        text: *mut u8,
+        text_len: usize,
+        report: *mut u8,
+        report_len: usize,
+    ) -> u64;
 }

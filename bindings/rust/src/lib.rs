@@ -9,7 +9,7 @@
 //!
 //! A refused call changes neither the state nor a byte lent. The lowest refusal is given.
 //! [`Cartridge`] owns all of these and has the calls as methods.
-//! [`bytes`] has the same calls over the record's bytes, as the C functions take it.
+//! [`salvage`] cleans a bus script. [`bytes`] has the same calls over the record's bytes, as the C functions take it.
 
 pub mod bytes;
 mod cartridge;
@@ -44,6 +44,8 @@ pub const SHADES_BYTES: usize = 14_336;
 pub const ROW_BYTES: usize = 128;
 /// Bytes of the longest line of a bus script, that of an image row, with its LF.
 pub const LINE_BYTES: usize = 261;
+/// The most bytes of a script that is salvaged.
+pub const SCRIPT_BYTES: usize = 32_768;
 
 /// Why a call is refused; the number of each case is the interface's.
 #[derive(Clone, Copy, Debug, PartialEq, Eq, PartialOrd, Ord)]
@@ -72,10 +74,12 @@ pub enum Refusal {
     Held,
     /// No capture is held.
     NotHeld,
+    /// The script is over 32,768 bytes.
+    Script,
 }
 
 impl Refusal {
-    /// The interface's number, 1 to 11.
+    /// The interface's number, 1 to 12.
     pub const fn number(self) -> u8 {
         match self {
             Refusal::State | Refusal::Layout(_) => 1,
@@ -89,6 +93,7 @@ impl Refusal {
             Refusal::Choice => 9,
             Refusal::Held => 10,
             Refusal::NotHeld => 11,
+            Refusal::Script => 12,
         }
     }
 
@@ -100,7 +105,7 @@ impl Refusal {
         }
     }
 
-    /// The refusal of a number; none outside 1 to 11.
+    /// The refusal of a number; none outside 1 to 12.
     pub const fn from_number(number: u32) -> Option<Refusal> {
         Some(match number {
             1 => Refusal::State,
@@ -114,6 +119,7 @@ impl Refusal {
             9 => Refusal::Choice,
             10 => Refusal::Held,
             11 => Refusal::NotHeld,
+            12 => Refusal::Script,
             _ => return None,
         })
     }
@@ -139,6 +145,7 @@ impl std::fmt::Display for Refusal {
             Refusal::Choice => "the light set is above 1 or the level above 15",
             Refusal::Held => "a capture is held, running or stopped",
             Refusal::NotHeld => "no capture is held, running or stopped",
+            Refusal::Script => "the script is over 32,768 bytes",
         })
     }
 }
@@ -234,4 +241,25 @@ pub fn picture(frame: &[u8], registers: &[u8; REGISTERS]) -> Result<[u8; PICTURE
     let mut picture = [0; PICTURE_BYTES];
     bytes::picture(frame, registers, &mut picture).result()?;
     Ok(picture)
+}
+
+/// A bus script that was salvaged.
+#[derive(Clone, Debug, PartialEq, Eq)]
+pub struct Salvaged {
+    /// The lines that were kept, each with its LF.
+    pub text: Vec<u8>,
+    /// A byte for each line of the script: 0 kept, 1 malformed, 2 accepted but dropped as repeated.
+    pub report: Vec<u8>,
+}
+
+/// Keeps the accepted lines of a bus script of at most 32,768 bytes, in order and unaltered; where they are
+/// a sequence that starts with reset followed by itself, one half of them, again until they are not. A last
+/// line without LF gains one.
+pub fn salvage(script: &[u8]) -> Result<Salvaged, Refusal> {
+    let mut text = vec![0; script.len() + 1];
+    let mut report = vec![0; script.len()];
+    let value = bytes::salvage(script, &mut text, &mut report).result()?;
+    text.truncate((value & 0xFFFF) as usize);
+    report.truncate((value >> 16) as usize);
+    Ok(Salvaged { text, report })
 }

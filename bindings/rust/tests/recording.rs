@@ -1,6 +1,9 @@
-//! The recorder: every call made, refused ones too, and every row that changed, as lines.
+//! The recorder: every call made, refused ones too, and every row that changed, as lines; and scripts salvaged.
 
-use gulxinett::{bytes, picture, Cartridge, Refusal, FRAME_BYTES, LINE_BYTES, ROW_BYTES};
+use gulxinett::{
+    bytes, picture, salvage, Cartridge, Refusal, Salvaged, FRAME_BYTES, LINE_BYTES, ROW_BYTES,
+    SCRIPT_BYTES,
+};
 
 /// The lines of some rows of an image.
 fn row_lines(image: &[u8], rows: impl IntoIterator<Item = usize>) -> String {
@@ -151,4 +154,96 @@ fn lines_that_are_refused() {
     assert_eq!(refused(bytes::record_reset(&mut room[..2])), Refusal::Room);
     assert_eq!(room, [0xA5; LINE_BYTES]);
     assert_eq!(bytes::record_row(0x7F, &row, &mut room).result(), Ok(261));
+}
+
+/// A script must be salvaged so.
+fn salvaged(script: &str, text: &str, report: &[u8]) {
+    let due = Salvaged {
+        text: text.into(),
+        report: report.into(),
+    };
+    assert_eq!(salvage(script.as_bytes()), Ok(due), "{script:?}");
+}
+
+#[test]
+fn scripts_with_broken_lines_and_twice() {
+    salvaged("", "", &[]);
+    salvaged("\n", "", &[1]);
+    salvaged("00", "00\n", &[0]);
+    salvaged("00\nxx\n01a000\n\n01A000", "00\n01A000\n", &[0, 1, 1, 1, 0]);
+    salvaged("00\n01A000\n00\n01A000", "00\n01A000\n", &[0, 0, 2, 2]);
+    // the later halves are dropped, until none is left
+    salvaged("00\n00\n00\n00\n", "00\n", &[0, 2, 2, 2]);
+    salvaged("00\n00\n00\n", "00\n00\n00\n", &[0, 0, 0]);
+    // halves that don't start with reset are no copies of a script
+    salvaged("018000\n018000\n", "018000\n018000\n", &[0, 0]);
+}
+
+#[test]
+fn recordings_uploaded_twice() -> Result<(), Refusal> {
+    let mut cartridge = Cartridge::default();
+    cartridge.record();
+    cartridge.reset();
+    cartridge.lend(&[0x5A; FRAME_BYTES][..])?;
+    cartridge.write(0x4000, 0x10)?;
+    cartridge.tick(5)?;
+    let recording = cartridge.recording();
+    assert!(recording.len() > SCRIPT_BYTES);
+    assert_eq!(salvage(recording), Err(Refusal::Script));
+    // a row that broke off, and a last LF that was lost
+    let (some, rest) = recording.split_at(3 + 59 * LINE_BYTES);
+    let twice = [some, &rest[..100], b"\n", &some[..some.len() - 1]].concat();
+    let due = Salvaged {
+        text: some.to_vec(),
+        report: [&[0; 60][..], &[1], &[2; 60]].concat(),
+    };
+    assert_eq!(salvage(&twice), Ok(due.clone()));
+    let once = Salvaged {
+        report: vec![0; 60],
+        ..due.clone()
+    };
+    assert_eq!(salvage(&due.text), Ok(once));
+    Ok(())
+}
+
+#[test]
+fn scripts_of_the_most_bytes() {
+    let (empty, resets) = ([b'\n'; SCRIPT_BYTES + 1], b"00\n".repeat(8_192));
+    let due = Salvaged {
+        text: vec![],
+        report: vec![1; SCRIPT_BYTES],
+    };
+    assert_eq!(salvage(&empty[1..]), Ok(due));
+    assert_eq!(salvage(&empty), Err(Refusal::Script));
+    // 13 halvings
+    let due = Salvaged {
+        text: b"00\n".to_vec(),
+        report: [&[0][..], &[2; 8_191]].concat(),
+    };
+    assert_eq!(salvage(&resets), Ok(due));
+}
+
+#[test]
+fn salvages_that_are_refused() {
+    let clean = |script: &[u8], text: &mut [u8], report: &mut [u8]| {
+        bytes::salvage(script, text, report).result()
+    };
+    let script = b"00\n01A000\nxx\n00\n01A000";
+    let (mut text, mut report) = ([0xA5; 11], [0xA5; 6]);
+    let long = [b'\n'; SCRIPT_BYTES + 1];
+    assert_eq!(clean(&long, &mut [], &mut []), Err(Refusal::Script));
+    assert_eq!(clean(&long, &mut text, &mut report), Err(Refusal::Script));
+    assert_eq!(
+        clean(script, &mut text[..9], &mut report),
+        Err(Refusal::Room)
+    );
+    assert_eq!(
+        clean(script, &mut text, &mut report[..4]),
+        Err(Refusal::Room)
+    );
+    assert_eq!((text, report), ([0xA5; 11], [0xA5; 6]));
+    let written = clean(script, &mut text, &mut report);
+    assert_eq!(written, Ok(5 * 65_536 + 10));
+    assert_eq!(text, *b"00\n01A000\n\xA5");
+    assert_eq!(report, [0, 0, 1, 2, 2, 0xA5]);
 }
