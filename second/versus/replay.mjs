@@ -17,8 +17,8 @@ const FENCE = 0xc3;
 const FENCE_BYTES = 64;
 /** The most bytes that each memory is lent, in the order of the steps. */
 const ROOM = {
-  state: 256, rom: 130 * 16384, ram: 34 * 8192, store: 32768, image: 32768, file: 10_000_000, picture: 3584, out: 16384, registers: 54,
-  row: 256,
+  state: 256, rom: 130 * 16384, ram: 34 * 8192, store: 32768, image: 32768, file: 10_000_000, picture: 3584, out: 49152, report: 49152,
+  registers: 54, row: 256,
 };
 const NAMES = Object.keys(ROOM);
 /** Every so many calls all of the memory is compared, what was not lent too. */
@@ -101,8 +101,8 @@ function kinds(steps, memories, exports) {
   const lent = (...names) => names.map((name) => memories.named(name)).flatMap((part) => [part.address, BigInt(part.length)]);
   const undrawn = (length) => new Uint8Array(length).fill(UNDRAWN);
   /** Room for what a call gives out. */
-  const makeRoom = () => {
-    const out = memories.named("out");
+  const makeRoom = (name = "out") => {
+    const out = memories.named(name);
     out.length = steps.short();
     memories.put(out, 0, undrawn(out.length));
   };
@@ -159,6 +159,11 @@ function kinds(steps, memories, exports) {
     () => {
       makeRoom();
       return ["readings", () => exports.gulxinett_readings(...lent("state", "store", "out"))];
+    },
+    () => {
+      makeRoom();
+      makeRoom("report");
+      return ["salvage", () => exports.gulxinett_salvage(...lent("file", "out", "report"))];
     },
   ];
 }

@@ -1,13 +1,13 @@
 //! The calls with the second program's answers, as a stream that another caller of the module
 //! replays.
 //!
-//! Both sides keep the eight memories in the order of [`memories`], each of them zeros at first, with
+//! Both sides keep the nine memories in the order of [`memories`], each of them zeros at first, with
 //! a length that is in use. Then come steps, numbers little-endian:
 //!
 //! - [`LENT`], which memory, its length as 4 bytes, a patch: it is lent so from here on;
-//! - the kind of a call 0 to 16 and its words, the answer as 8 bytes, how many memories it changed,
-//!   and of each which one and a patch. The memory of what a call gives out, a picture, a line or
-//!   a file, is all [`UNDRAWN`] before;
+//! - the kind of a call 0 to 17 and its words, the answer as 8 bytes, how many memories it changed,
+//!   and of each which one and a patch. The memory of what a call gives out, a picture, a line, a
+//!   file, or a text and its report, is all [`UNDRAWN`] before;
 //! - [`END`] and how many calls there were, as 8 bytes.
 //!
 //! A patch is a place and a count of bytes, 4 bytes each, and the bytes.
@@ -24,6 +24,8 @@ const END: u8 = 0xFE;
 const PICTURE: usize = 6;
 /// Which is whatever else is given out.
 const OUT: usize = 7;
+/// Which is the report that a salvage gives out besides.
+const REPORT: usize = 8;
 /// How many bytes of steps are written at once.
 const PIECE: usize = 1 << 20;
 
@@ -33,12 +35,12 @@ pub struct Answers {
     /// Steps not yet written, and whether those before them were.
     steps: Vec<u8>,
     written: Result<()>,
-    memories: [Vec<u8>; 8],
+    memories: [Vec<u8>; 9],
     lengths: [usize; PICTURE],
     calls: u64,
 }
 
-fn memories(side: &Side) -> [&[u8]; 8] {
+fn memories(side: &Side) -> [&[u8]; 9] {
     [
         &side.state,
         &side.rom,
@@ -48,6 +50,7 @@ fn memories(side: &Side) -> [&[u8]; 8] {
         &side.file,
         &side.picture,
         &side.out,
+        &side.report,
     ]
 }
 
@@ -84,19 +87,20 @@ impl Answers {
         self.steps.extend(answer.to_le_bytes());
         let count = self.steps.len();
         self.steps.push(0);
-        let given_out = match call {
-            Call::Picture { .. } => Some(PICTURE),
+        let given_out: &[usize] = match call {
+            Call::Picture { .. } => &[PICTURE],
             Call::Record { .. }
             | Call::Export { .. }
             | Call::Shades { .. }
-            | Call::Readings { .. } => Some(OUT),
-            _ => None,
+            | Call::Readings { .. } => &[OUT],
+            Call::Salvage { .. } => &[OUT, REPORT],
+            _ => &[],
         };
         let bytes = memories(after);
-        if let Some(what) = given_out {
+        for &what in given_out {
             self.memories[what] = vec![UNDRAWN; bytes[what].len()];
         }
-        for what in (0..PICTURE).chain(given_out) {
+        for what in (0..PICTURE).chain(given_out.iter().copied()) {
             if let Some(patch) = self.patch(what, bytes[what]) {
                 self.steps[count] += 1;
                 self.steps.push(what as u8);
@@ -174,9 +178,15 @@ impl Answers {
                 self.steps.push(16);
                 self.steps.extend((*room as u16).to_le_bytes());
             }
+            Call::Salvage { room, report } => {
+                self.steps.push(17);
+                self.steps.extend((*room as u16).to_le_bytes());
+                self.steps.extend((*report as u16).to_le_bytes());
+            }
             Call::Image { .. }
             | Call::File { .. }
             | Call::Plate { .. }
+            | Call::Script { .. }
             | Call::Keep
             | Call::Lend { .. }
             | Call::Put { .. } => unreachable!("what is lent is no call"),

@@ -60,6 +60,11 @@ pub enum Call {
     },
     /// The file lent, read into the image.
     Import,
+    /// The file lent, a script, salvaged into so many bytes, with a report into so many.
+    Salvage {
+        room: usize,
+        report: usize,
+    },
     /// Another image is lent from here on.
     Image {
         kind: u8,
@@ -71,6 +76,10 @@ pub enum Call {
     },
     /// Another file, which may be a plate, is lent from here on.
     Plate {
+        seed: u64,
+    },
+    /// Another file, which may be a script, is lent from here on.
+    Script {
         seed: u64,
     },
     /// The picture area as it stands is the file lent from here on.
@@ -94,6 +103,7 @@ impl Call {
             Call::Image { .. }
                 | Call::File { .. }
                 | Call::Plate { .. }
+                | Call::Script { .. }
                 | Call::Keep
                 | Call::Lend { .. }
                 | Call::Put { .. }
@@ -132,9 +142,13 @@ impl fmt::Display for Call {
                 "choose light set {light}, level {level}, plain {plain}, exposure {exposure:X}h"
             ),
             Call::Import => write!(f, "import of the file lent"),
+            Call::Salvage { room, report } => {
+                write!(f, "salvage in {room} bytes, report in {report}")
+            }
             Call::Image { kind, seed } => write!(f, "image of kind {kind}, seed {seed}"),
             Call::File { seed } => write!(f, "file of seed {seed}"),
             Call::Plate { seed } => write!(f, "plate of seed {seed}"),
+            Call::Script { seed } => write!(f, "script of seed {seed}"),
             Call::Keep => write!(f, "the picture area kept as the file lent"),
             Call::Lend { what, length } => write!(f, "lend {what:?} of {length} bytes"),
             Call::Put { record } => write!(f, "state {}", hex(record)),

@@ -30,6 +30,8 @@ pub struct History<'a> {
     pub placed: [u64; 2],
     /// Files made of the readings of a capture.
     pub readings: u64,
+    /// Scripts salvaged, none of them refused.
+    pub salvaged: u64,
     /// A start was seen, so that its end makes a whole capture.
     started: bool,
 }
@@ -60,6 +62,7 @@ impl<'a> History<'a> {
             halves: 0,
             placed: [0; 2],
             readings: 0,
+            salvaged: 0,
             started: false,
         }
     }
@@ -86,6 +89,9 @@ impl<'a> History<'a> {
             }
             if let Call::Readings { .. } = call {
                 self.readings += u64::from(answer >> 32 == 0);
+            }
+            if let Call::Salvage { .. } = call {
+                self.salvaged += u64::from(answer >> 32 == 0);
             }
             self.count_captures(&call, before);
         }
@@ -159,6 +165,7 @@ impl<'a> History<'a> {
                 }
                 71..=80 => return self.record(),
                 81..=85 => self.plan_placing(),
+                94..=95 => self.plan_salvage(),
                 86..=88 => {
                     return Call::Shades {
                         room: room_for(PIXELS, self.random),
@@ -169,7 +176,7 @@ impl<'a> History<'a> {
                         room: room_for(GREY_FILE_BYTES, self.random),
                     }
                 }
-                94..=480 => {
+                96..=480 => {
                     return Call::Read {
                         address: self.address(),
                     }
@@ -248,6 +255,17 @@ impl<'a> History<'a> {
             self.planned.push_back(Call::Tick { cycles });
         }
         self.planned.push_back(Call::Place);
+    }
+
+    /// Lends a file, which may be a script, and salvages it.
+    fn plan_salvage(&mut self) {
+        let seed = self.random.next() >> 40;
+        let most = self.random.pick(&[200, 2_000, 33_000]);
+        self.planned.push_back(Call::Script { seed });
+        self.planned.push_back(Call::Salvage {
+            room: room_for(most, self.random),
+            report: room_for(most, self.random),
+        });
     }
 
     /// Registers that start a capture, with exposures at which pixels differ more often than not.

@@ -15,6 +15,7 @@ mod lines;
 mod photos;
 mod plates;
 mod random;
+mod salvages;
 mod script;
 mod shrink;
 mod sides;
@@ -132,6 +133,13 @@ fn compare(calls: u64, seed: u64, answers: Option<Answers>) -> Option<Option<Ans
         "photographs: {} calls compared, {read} of them of files that are read",
         tally.compared - before
     );
+    let before = tally.compared;
+    let [salvaged, halved] = salvages::compare(&mut tally, &mut random);
+    println!(
+        "scripts salvaged: {} calls compared, {salvaged} of them not refused, and {halved} of these with \
+         lines dropped as repeated",
+        tally.compared - before
+    );
     tally
         .differences
         .iter()
@@ -139,6 +147,7 @@ fn compare(calls: u64, seed: u64, answers: Option<Answers>) -> Option<Option<Ans
         .for_each(|difference| println!("DIFFERENCE: {difference}"));
     let mut differences = tally.differences.len();
     let (mut compared, mut captures, mut halves, mut placed, mut readings) = (0, 0, 0, [0; 2], 0);
+    let mut salvaged = 0;
     while compared < calls && differences < SHOWN {
         let mut history = History::new(&mut random);
         if let Err(difference) = history.play(HISTORY.min(calls - compared), tally.answers.as_mut())
@@ -151,11 +160,12 @@ fn compare(calls: u64, seed: u64, answers: Option<Answers>) -> Option<Option<Ans
         halves += history.halves;
         placed = [0, 1].map(|what| placed[what] + history.placed[what]);
         readings += history.readings;
+        salvaged += history.salvaged;
     }
     println!(
         "histories: {compared} calls compared, {captures} whole captures, \
          {halves} files made while a capture was running, {} plates placed and {} turned away \
-         while a capture was held, {readings} files made of readings",
+         while a capture was held, {readings} files made of readings, {salvaged} scripts salvaged",
         placed[0], placed[1]
     );
     println!(

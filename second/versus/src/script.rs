@@ -79,7 +79,7 @@ impl Script {
 }
 
 /// One frame, or a few that belong together.
-fn frames(random: &mut Random) -> Vec<Vec<u8>> {
+pub fn frames(random: &mut Random) -> Vec<Vec<u8>> {
     let lines = match random.below(100) {
         0 => [start(random), look(random)].concat(),
         1 => vec!["00".into()],
@@ -145,7 +145,7 @@ fn look(random: &mut Random) -> Vec<String> {
 }
 
 /// Damages a line in one way.
-fn spoil(random: &mut Random, line: &mut Vec<u8>) {
+pub fn spoil(random: &mut Random, line: &mut Vec<u8>) {
     let place = random.below(line.len() as u32) as usize;
     match random.below(10) {
         0 => line[place] = random.byte(),

@@ -4,8 +4,9 @@ use crate::call::{hex, Call, Lent};
 use crate::photos;
 use crate::plates;
 use crate::random::Random;
+use crate::salvages;
 use gulxinett::bytes;
-use second::{Frame, State};
+use second::{Frame, Salvaged, State};
 
 /// What the bytes of a picture, or of what else a call gives out, hold before.
 pub const UNDRAWN: u8 = 0xA5;
@@ -27,6 +28,8 @@ pub struct Side {
     pub picture: [u8; 3584],
     /// The bytes that a call gave out.
     pub out: Vec<u8>,
+    /// The bytes that a salvage gave out besides.
+    pub report: Vec<u8>,
 }
 
 /// Writes a frame as a line through the archive.
@@ -66,6 +69,7 @@ impl Side {
             Call::Image { kind, seed } => paint(&mut self.image, *kind, *seed),
             Call::File { seed } => self.file = photos::random_file(&mut Random::new(*seed)),
             Call::Plate { seed } => self.file = plates::random_file(&mut Random::new(*seed)),
+            Call::Script { seed } => self.file = salvages::random_file(&mut Random::new(*seed)),
             Call::Keep => self.keep(),
             Call::Lend { what, length } => self.lent(*what).resize(*length, 0x3C),
             Call::Put { record } => self.state = record.to_vec(),
@@ -86,6 +90,13 @@ impl Side {
         self.out.clear();
         self.out.resize(room, UNDRAWN);
         &mut self.out
+    }
+
+    /// Room for a script that is salvaged and for its report, none of it written.
+    fn make_both_rooms(&mut self, room: usize, report: usize) {
+        self.make_room(room);
+        self.report.clear();
+        self.report.resize(report, UNDRAWN);
     }
 
     /// Calls the archive.
@@ -110,6 +121,10 @@ impl Side {
         if let Call::Readings { room } = call {
             self.make_room(*room);
             return bytes::readings(&self.state, &self.store, &mut self.out).0;
+        }
+        if let Call::Salvage { room, report } = call {
+            self.make_both_rooms(*room, *report);
+            return bytes::salvage(&self.file, &mut self.out, &mut self.report).0;
         }
         let Side {
             state,
@@ -169,6 +184,10 @@ impl Side {
         if let Call::Readings { room } = call {
             self.make_room(*room);
             return self.readings_second();
+        }
+        if let Call::Salvage { room, report } = call {
+            self.make_both_rooms(*room, *report);
+            return self.salvage_second();
         }
         let Some(mut state) = State::from_bytes(&self.state) else {
             return refused(1);
@@ -244,6 +263,14 @@ impl Side {
     fn import_second(&mut self) -> u64 {
         let read = second::import(&mut self.image, &self.file);
         read.map_or_else(|refusal| refused(refusal.number().into()), |()| 0)
+    }
+
+    fn salvage_second(&mut self) -> u64 {
+        let salvaged = second::salvage(&self.file, &mut self.out, &mut self.report);
+        salvaged.map_or_else(
+            |refusal| refused(refusal.number().into()),
+            |Salvaged { length, lines }| lines as u64 * 65_536 + length as u64,
+        )
     }
 
     fn draw_second(&mut self, of: Lent, registers: &[u8; 54]) -> u64 {
@@ -324,6 +351,7 @@ impl Pair {
             file: Vec::new(),
             picture: [0; 3584],
             out: Vec::new(),
+            report: Vec::new(),
         };
         Pair {
             archive: side.clone(),
@@ -373,6 +401,11 @@ impl Pair {
             Call::Place => &[("RAM", &a.ram, &b.ram), ("file", &a.file, &b.file)],
             Call::Shades { .. } => &[("RAM", &a.ram, &b.ram), ("shades", &a.out, &b.out)],
             Call::Readings { .. } => &[("store", &a.store, &b.store), ("file", &a.out, &b.out)],
+            Call::Salvage { .. } => &[
+                ("script", &a.file, &b.file),
+                ("text", &a.out, &b.out),
+                ("report", &a.report, &b.report),
+            ],
             _ => &[],
         };
         let state = parted("state", &a.state, &b.state)

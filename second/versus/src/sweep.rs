@@ -74,6 +74,7 @@ fn parting(archive: &Side, second: &Side) -> Option<String> {
         .find_map(|((name, a), (_, b))| parted(name, a, b))
         .or_else(|| parted("picture", &archive.picture, &second.picture))
         .or_else(|| parted("bytes given out", &archive.out, &second.out))
+        .or_else(|| parted("report", &archive.report, &second.report))
 }
 
 /// The 116 bytes that a record had in layout 1: no number of the layout and no counts.
@@ -247,6 +248,7 @@ pub fn refusals(tally: &mut Tally) {
             file: empty(),
             picture: [0; 3584],
             out: empty(),
+            report: empty(),
         };
         let due = (side.state.len() != second::RECORD_BYTES).then_some(1);
         tally.compare(&side, &Call::Reset, due);
