@@ -1,9 +1,11 @@
 //! What is written into lent memory: frames as script lines, a plate as a file and back, its shades, the
-//! readings before them, a photograph as an image.
+//! readings before them, a photograph as an image, scripts salvaged.
 
 use crate::timing::{self, sample, Effort, Spread};
 use gulxinett::bytes;
-use second::{Frame, State, FRAME_BYTES, GREY_FILE_BYTES, PIXELS, RECORD_BYTES, REGISTERS};
+use second::{
+    Frame, State, FRAME_BYTES, GREY_FILE_BYTES, LONGEST_SCRIPT, PIXELS, RECORD_BYTES, REGISTERS,
+};
 use std::hint::black_box;
 
 const LINE: usize = 261;
@@ -22,11 +24,14 @@ struct Lent {
     plate: Vec<u8>,
     photo: Vec<u8>,
     image: Vec<u8>,
+    scripts: [Script; 3],
+    text: Vec<u8>,
+    report: Vec<u8>,
 }
 
-/// Times both on a row of the image, a write, a plate out and in, its shades, readings and a photograph;
-/// returns what each writes in a second.
-pub fn measure(effort: Effort) -> [String; 7] {
+/// Times both on a row of the image, a write, a plate out and in, its shades, readings, a photograph and the
+/// largest scripts salvaged; returns what each writes in a second.
+pub fn measure(effort: Effort) -> [String; 10] {
     [
         compare("row lines", effort, proved_row, second_row),
         compare("write lines", effort, proved_write, second_write),
@@ -40,6 +45,24 @@ pub fn measure(effort: Effort) -> [String; 7] {
             second_readings,
         ),
         compare("photographs read", effort, proved_photo, second_photo),
+        compare(
+            "salvages of short lines",
+            effort,
+            proved_salvage::<0>,
+            second_salvage::<0>,
+        ),
+        compare(
+            "salvages of rows",
+            effort,
+            proved_salvage::<1>,
+            second_salvage::<1>,
+        ),
+        compare(
+            "salvages of `00` lines",
+            effort,
+            proved_salvage::<2>,
+            second_salvage::<2>,
+        ),
     ]
 }
 
@@ -55,6 +78,14 @@ fn compare(what: &str, effort: Effort, proved: Writer, second: Writer) -> String
         image: (0..FRAME_BYTES)
             .map(|place| (place * place / 13) as u8)
             .collect(),
+        scripts: [
+            Script::new(short_lines(), 2),
+            Script::new(row_lines(), 2),
+            // 13 halvings
+            Script::new(b"00\n".to_vec(), 1 << 13),
+        ],
+        text: vec![0; LONGEST_SCRIPT + 1],
+        report: vec![0; LONGEST_SCRIPT],
     };
     let mut times = [const { Vec::new() }; 2];
     for round in 0..effort.rounds + 1 {
@@ -192,4 +223,67 @@ fn second_photo(lent: &mut Lent, number: u32) {
     lent.photo[0x100] = number as u8;
     let read = second::import(&mut lent.image, &lent.photo);
     assert_eq!(read, Ok(()));
+}
+
+/// A script of the most bytes that is salvaged, and what is answered.
+struct Script {
+    bytes: Vec<u8>,
+    due: u64,
+}
+
+impl Script {
+    /// So many copies of a text, and empty lines up to the most bytes.
+    fn new(text: Vec<u8>, copies: usize) -> Self {
+        let mut bytes = text.repeat(copies);
+        assert!(bytes.len() <= LONGEST_SCRIPT);
+        bytes.resize(LONGEST_SCRIPT, b'\n');
+        let lines = bytes.iter().filter(|&&byte| byte == b'\n').count();
+        Script {
+            bytes,
+            due: (lines * 65_536 + text.len()) as u64,
+        }
+    }
+}
+
+/// A reset, then reads, writes and ticks: half of the most bytes.
+fn short_lines() -> Vec<u8> {
+    let mut lines = b"00\n".to_vec();
+    for number in 0.. {
+        let line = match number % 3 {
+            0 => format!("01{:04X}\n", 0xA100 + number),
+            1 => format!("02{:04X}{:02X}\n", 0xA000 + number % 54, number % 251),
+            _ => format!("03{:08X}\n", number),
+        };
+        if lines.len() + line.len() > LONGEST_SCRIPT / 2 {
+            break;
+        }
+        lines.extend(line.bytes());
+    }
+    lines
+}
+
+/// A reset, then rows: half of the most bytes.
+fn row_lines() -> Vec<u8> {
+    let mut lines = b"00\n".to_vec();
+    for row in 0..62 {
+        let pixels = [4 * row; ROW];
+        let mut line = [0; LINE];
+        let written = Frame::Row { row, pixels }.write_line(&mut line);
+        assert_eq!(written, Ok(LINE));
+        lines.extend(line);
+    }
+    lines
+}
+
+fn proved_salvage<const KIND: usize>(lent: &mut Lent, _: u32) {
+    let script = &lent.scripts[KIND];
+    let answer = bytes::salvage(&script.bytes, &mut lent.text, &mut lent.report);
+    assert_eq!(answer.0, script.due);
+}
+
+fn second_salvage<const KIND: usize>(lent: &mut Lent, _: u32) {
+    let script = &lent.scripts[KIND];
+    let salvaged = second::salvage(&script.bytes, &mut lent.text, &mut lent.report);
+    let answer = salvaged.map(|salvaged| (salvaged.lines * 65_536 + salvaged.length) as u64);
+    assert_eq!(answer, Ok(script.due));
 }
