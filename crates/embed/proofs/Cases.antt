@@ -5,6 +5,8 @@ use mathlib.Core.List.{List, []}
 use Prim.Native.Nat.{ℕ, zero, suc, _≤_}
 use lib.Dec.{eqb}
 use lib.ListN.{length}
+use native.Mathlib.Omega.{arith}
+use Rattle.laws.proofs.Order.{split}
 use Rattle.controller.specs.declared.Controller.{Controller}
 use Rattle.timing.specs.declared.Cycles.{Cycles}
 use Rattle.controller.specs.declared.Refusal.{Refusal}
@@ -42,9 +44,14 @@ use Rattle.photos.specs.Photo.{imported, importMeans}
 use Rattle.desk.specs.declared.choice.Exposure.{Exposure}
 use Rattle.desk.specs.Choice.{chooseMeans}
 use Rattle.desk.proofs.Choices.{choose-refuses}
+use Rattle.salvaging.specs.declared.Salvaged.{Salvaged}
+use Rattle.salvaging.specs.declared.Salvaged.the-variants as salvages
+use Rattle.salvaging.specs.Salvage.{Salvaging, salvageRows, salvageDone, salvageMeans, salvagedAs}
+use Rattle.salvaging.proofs.Cleaned.{cleaned-long, lines-few}
+use Rattle.salvaging.proofs.Outcomes.{salvage-long}
 use Rattle.embed.specs.Layout.{encoded, isRecord, decoded}
 use Rattle.embed.specs.Packed.{packed}
-use Rattle.embed.specs.Exports.{called, asBytes, noRecord, unread, resetBytes, readBytes, writeBytes, tickBytes, inspected, inspectBytes, filled, asDrawn, pictureBytes, asLine, recordBytes, asWritten, exportBytes, shadesBytes, placeBytes, readingsBytes, asRead, importBytes, plainIn, exposureIn, chooseBytes}
+use Rattle.embed.specs.Exports.{called, asBytes, noRecord, unread, resetBytes, readBytes, writeBytes, tickBytes, inspected, inspectBytes, filled, asDrawn, pictureBytes, asLine, recordBytes, asWritten, exportBytes, shadesBytes, placeBytes, readingsBytes, asRead, importBytes, plainIn, exposureIn, chooseBytes, reported, asReported, salvageBytes}
 use Rattle.embed.proofs.Inverse.{encode-decode}
 
 -- what comes to a number is that refusal: for an outcome, the state given and every byte lent
@@ -292,3 +299,36 @@ pub import-read : (file image : List ℕ) (r : WriteAnswer) (left : List ℕ) �
     → (p : ℕ) → p ≡ packed (writeNumber r) 0 → filled p left ≡ importBytes file image
 unfolding importBytes
 import-read file image r left means p q = (λ i. filled (q i) left) ∙ ap asRead means
+
+-- ---- a script salvaged
+
+-- a salvage of at most 32,768 lines and 32,769 bytes
+pub record Most (o : Salvaging) : Type 0 where
+  pub lines : o .lines ≤ 32768
+  pub length : o .length ≤ 32769
+
+short-most : (script text report : List ℕ) → length script ≤ 32768 → Most (salvageMeans script text report)
+unfolding salvageMeans salvageDone
+short-most script text report h =
+    judged-ind Most (lowest (salvageRows script text report)) (λ k. record { lines = omega arith; length = omega arith })
+    (record { lines = omega (arith, h, lines-few script); length = omega (arith, h, cleaned-long script) })
+
+pub salvage-most : (script text report : List ℕ) → Most (salvageMeans script text report)
+salvage-most script text report =
+    split 32768 (length script)
+    (λ h. rw (salvage-long script text report h) (record { lines = omega arith; length = omega arith }))
+    (λ h. short-most script text report h)
+
+module _ (script text report : List ℕ) (r : Salvaged) (text′ report′ : List ℕ) (means : salvagedAs r text′ report′ ≡ salvageMeans script text report) where
+  salvage-is : (x : Salvaged) → r ≡ x → salvagedAs x text′ report′ ≡ salvageMeans script text report
+  salvage-is x f = ap (λ y. salvagedAs y text′ report′) (sym f) ∙ means
+
+  pub cleaned-most : (n m : ℕ) → r ≡ salvages.Cleaned n m → (m ≤ 32768) × (n ≤ 32769)
+  cleaned-most n m f =
+      let o : Most (salvagedAs (salvages.Cleaned n m) text′ report′) = rw (salvage-is (salvages.Cleaned n m) f) (salvage-most script text report) in
+      (o .lines, o .length)
+
+  pub salvage-reported : (x : Salvaged) → r ≡ x → (p : ℕ) → p ≡ asReported (salvagedAs x text′ report′) .answer → reported p text′ report′ ≡ salvageBytes script text report
+  unfolding salvageBytes
+  salvage-reported (salvages.Cleaned n m) f p q = (λ i. reported (q i) text′ report′) ∙ ap asReported (salvage-is (salvages.Cleaned n m) f)
+  salvage-reported (salvages.Refused why) f p q = (λ i. reported (q i) text′ report′) ∙ ap asReported (salvage-is (salvages.Refused why) f)

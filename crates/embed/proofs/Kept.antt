@@ -1,11 +1,11 @@
 -- A refused call leaves the state bytes, the RAM, the frame store and a lent buffer as they were. Assumes nothing.
-use mathlib.Core.Path.{_≡_, refl, sym, _∙_}
+use mathlib.Core.Path.{_≡_, refl, sym, _∙_, ap}
 use mathlib.Core.Bool.{true, false}
 use mathlib.Core.List.{List, []}
-use Prim.Native.Nat.{ℕ, _/_, _<_}
+use Prim.Native.Nat.{ℕ, zero, suc, _+_, _*_, _/_, _<_}
 use Rattle.tiles.specs.Tiles.{Bytes}
 use Rattle.controller.specs.Outcome.{Outcome}
-use Rattle.controller.specs.Table.{Row}
+use Rattle.controller.specs.Table.{Row, lowest, judged}
 use Rattle.controller.specs.Calls.{refusal}
 use Rattle.controller.proofs.Refusals.{Refuses, inOutcome, write-refuses, tick-refuses}
 use Rattle.laws.proofs.Bools.{either}
@@ -15,10 +15,12 @@ use Rattle.plates.proofs.Exports.{inExported, export-refuses, shades-refuses}
 use Rattle.plates.proofs.Placed.{place-refuses}
 use Rattle.plates.proofs.Values.{readings-refuse}
 use Rattle.embed.specs.Layout.{encoded, isRecord, decoded}
-use Rattle.embed.specs.Exports.{Called, asBytes, unread, writeBytes, tickBytes, plainIn, exposureIn, chooseBytes, exportBytes, shadesBytes, placeBytes, readingsBytes}
+use Rattle.embed.specs.Exports.{Called, asBytes, unread, writeBytes, tickBytes, plainIn, exposureIn, chooseBytes, exportBytes, shadesBytes, placeBytes, readingsBytes, reported, salvageBytes}
 use Rattle.embed.proofs.Inverse.{encode-decode}
 use Rattle.embed.proofs.Cases.{kept, write-unread, write-done, tick-unread, tick-done, choose-unread, choose-done, place-unread, place-done, readings-unread, readings-done}
-use Rattle.embed.proofs.Only.{Says, write-says, tick-says, choose-says, place-says, export-says, shades-says, readings-says}
+use Rattle.embed.proofs.Only.{Says, write-says, tick-says, choose-says, place-says, export-says, shades-says, readings-says, salvage-says}
+use Rattle.salvaging.specs.Salvage.{unsalvaged, salvageRows, salvageDone, salvageMeans}
+use Rattle.embed.specs.Packed.{packed}
 
 pub record Keeps (c : Called) (s m f : List ℕ) : Type 0 where
   pub state : c .state ≡ s
@@ -75,3 +77,17 @@ readings-kept s store out some =
     either (isRecord s)
     (λ h. rw (readings-done s store out h) (written-kept (readings-refuse (decoded s) store out) (λ z. some (z ∙ sym (readings-says s store out h .number)))))
     (λ h. rw (readings-unread s store out h) refl)
+
+-- a salvage that is refused has no lines and no length, and writes nothing
+refused-salvage : (script text report : List ℕ) (n : ℕ) → lowest (salvageRows script text report) ≡ n → (0 ≡ salvageMeans script text report .number → ⊥)
+    → salvageMeans script text report ≡ unsalvaged text report n
+unfolding salvageMeans salvageDone
+refused-salvage script text report zero e some = absurd (some (sym (ap (λ n. judged n (unsalvaged text report) (salvageDone script text report) .number) e)))
+refused-salvage script text report (suc k) e some = ap (λ n. judged n (unsalvaged text report) (salvageDone script text report)) e
+
+pub salvage-kept : (script text report : List ℕ) → (0 ≡ salvageBytes script text report .answer / 4294967296 → ⊥)
+    → salvageBytes script text report ≡ reported (packed (salvageMeans script text report .number) 0) text report
+unfolding salvageBytes
+salvage-kept script text report some =
+    let k = refused-salvage script text report (lowest (salvageRows script text report)) refl (λ z. some (z ∙ sym (salvage-says script text report .number))) in
+    λ i. reported (packed (salvageMeans script text report .number) (k i .lines * 65536 + k i .length)) (k i .text) (k i .report)

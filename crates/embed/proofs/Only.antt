@@ -32,10 +32,11 @@ use Rattle.plates.proofs.Values.{readings-refuse}
 use Rattle.photos.specs.Photo.{importMeans}
 use Rattle.desk.specs.Choice.{chooseMeans}
 use Rattle.desk.proofs.Choices.{choose-refuses}
+use Rattle.salvaging.specs.Salvage.{salvageMeans}
 use Rattle.embed.specs.Layout.{isRecord, decoded}
 use Rattle.embed.specs.Packed.{packed}
-use Rattle.embed.specs.Exports.{readBytes, writeBytes, tickBytes, elementValue, inspectBytes, recordBytes, exportBytes, shadesBytes, placeBytes, readingsBytes, importBytes, plainIn, exposureIn, chooseBytes}
-use Rattle.embed.proofs.Cases.{read-done, write-done, tick-done, inspect-done, choose-done, place-done, readings-done}
+use Rattle.embed.specs.Exports.{readBytes, writeBytes, tickBytes, elementValue, inspectBytes, recordBytes, exportBytes, shadesBytes, placeBytes, readingsBytes, importBytes, plainIn, exposureIn, chooseBytes, countsOf, salvageBytes}
+use Rattle.embed.proofs.Cases.{read-done, write-done, tick-done, inspect-done, choose-done, place-done, readings-done, salvage-most}
 
 -- the number stands above 2^32, and the value below
 pub record Says (answer n v : ℕ) : Type 0 where
@@ -150,3 +151,18 @@ readings-says s store out h = rw (readings-done s store out h) (packed-says _ _ 
 pub import-says : (file image : List ℕ) → Says (importBytes file image .answer) (importMeans file image .number) 0
 unfolding importBytes
 import-says file image = packed-says _ _ (omega arith)
+
+-- a salvage's answer: at most 32,768 lines of at most 32,769 bytes are a value below 2^32
+pub salvage-says : (script text report : List ℕ) → Says (salvageBytes script text report .answer) (salvageMeans script text report .number) (countsOf (salvageMeans script text report))
+unfolding salvageBytes
+salvage-says script text report =
+    let most = salvage-most script text report in
+    packed-says _ _ (omega (arith, most .lines, most .length))
+
+-- and the value gives back the number of lines and the text's length
+pub salvage-counts : (script text report : List ℕ)
+    → (countsOf (salvageMeans script text report) / 65536 ≡ salvageMeans script text report .lines)
+    × (countsOf (salvageMeans script text report) % 65536 ≡ salvageMeans script text report .length)
+salvage-counts script text report =
+    let most = salvage-most script text report in
+    (omega (arith, most .length), omega (arith, most .length))

@@ -21,6 +21,7 @@ use Rattle.photos.specs.Photo.{Imported, importMeans}
 use Rattle.desk.specs.declared.choice.Exposure.{Exposure}
 use Rattle.desk.specs.declared.choice.Exposure.the-variants.{Named, Unnamed}
 use Rattle.desk.specs.Choice.{chooseMeans}
+use Rattle.salvaging.specs.Salvage.{Salvaging, salvageMeans}
 use Rattle.embed.specs.Layout.{encoded, isRecord, decoded}
 use Rattle.embed.specs.Packed.{packed}
 
@@ -132,3 +133,23 @@ asRead i = filled (packed (i .number) 0) (i .image)
 
 unfoldable pub importBytes : List ℕ → List ℕ → Filled
 importBytes file image = asRead (importMeans file image)
+
+-- an answer, and the bytes left of the two buffers that a salvage fills
+pub record Reported : Type 0 where
+  pub answer : ℕ
+  pub text : List ℕ
+  pub report : List ℕ
+
+abbrev pub reported : ℕ → List ℕ → List ℕ → Reported
+reported answer text report = record { answer = answer; text = text; report = report }
+
+-- a script salvaged as a value: lines × 65,536 + the text's length
+abbrev pub countsOf : Salvaging → ℕ
+countsOf s = s .lines * 65536 + s .length
+
+abbrev pub asReported : Salvaging → Reported
+asReported s = reported (packed (s .number) (countsOf s)) (s .text) (s .report)
+
+-- a script salvaged into lent buffers
+unfoldable pub salvageBytes : List ℕ → List ℕ → List ℕ → Reported
+salvageBytes script text report = asReported (salvageMeans script text report)
