@@ -1,0 +1,2 @@
+-- The numbers of the sentence.
+pub mod Counted
