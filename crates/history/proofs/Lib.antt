@@ -5,6 +5,7 @@ pub mod Exists
 pub mod Reachable
 pub mod Follows
 pub mod Counts
+pub mod Touched
 pub mod Outside
 pub mod Goes
 pub mod Cycles

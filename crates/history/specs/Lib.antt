@@ -2,5 +2,6 @@
 pub mod History
 pub mod Track
 pub mod Since
+pub mod Bits
 pub mod Counts
 pub mod Writes

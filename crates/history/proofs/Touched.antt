@@ -1,0 +1,239 @@
+-- Each bit of the RAM is the last thing that was sent to it, or what it held at first. Assumes nothing.
+use mathlib.Core.Path.{_≡_, refl, sym, ap, _∙_}
+use mathlib.Core.Bool.{Bool, true, false, _&&_, and-false}
+use mathlib.Core.List.{List, [], _∷_, _++_}
+use Prim.Native.Nat.{ℕ, zero, suc, _+_, _-_, _*_, _/_, _%_, _^_, _<_, _≤_, min}
+use native.Mathlib.Nat.{add-zero, div-one, div-div-eq-div-mul, pow-suc}
+use native.Mathlib.Omega.{arith}
+use lib.Dec.{eqb, leb, ltb}
+use lib.ListN.{length, getD}
+use borrow.Author.Tests.{eq-eqb, ne-eqb, leb-true, leb-false, le-leb, lt-leb, lt-ltb, le-ltb}
+use Rattle.laws.specs.Pick.{pick}
+use Rattle.laws.specs.Bits.{bitOf}
+use Rattle.laws.proofs.Order.{split}
+use Rattle.laws.proofs.Pick.{pick-same}
+use Rattle.laws.proofs.Bools.{both-left, both-right}
+use Rattle.timing.specs.Lent.{ramAllowed}
+use Rattle.timing.specs.Timing.{readingFrom, firstRow}
+use Rattle.timing.specs.Bulk.{pictureFrom, doneBy}
+use Rattle.timing.proofs.Lent.{ram-lent}
+use Rattle.timing.proofs.Range.{timed, done-most}
+use Rattle.tiles.specs.Tiles.{shadeIn}
+use Rattle.tiles.specs.Tiles as tiles
+use Rattle.tiles.specs.Picture.{pictureShade}
+use Rattle.tiles.specs.Bulk.{pixels}
+use Rattle.tiles.proofs.Run.{pixels-none}
+use Rattle.tiles.proofs.Pixels.{pixels-outside, pixels-passed, pixels-others}
+use Rattle.controller.proofs.TickSum.{ap-pick}
+use Rattle.history.specs.History.{Call, reset, read, write, tick, inspect, choose, place, World, fresh, leaves, after}
+use Rattle.history.specs.Track.{Track, atReset, tickAccepted, runsIn, inArea, lands, byteIn, next, follow}
+use Rattle.history.specs.Since.{cycleOf}
+use Rattle.history.specs.Bits.{columnAt, rowAt, pixelAt, bitAt, sends, shadeSent, sentIn, lastSent}
+use Rattle.history.proofs.Picks.{by-test, not-both}
+use Rattle.history.proofs.Follows.{Moment, at-reset, moment-next, put-next, byte-next}
+
+-- ---- where a bit stands
+
+-- a place of the area
+pub record Inside (p : ℕ) : Type 0 where
+  pub low : 0x100 ≤ p
+  pub high : p < 0xF00
+
+pub inside : (p : ℕ) → inArea p ≡ true → Inside p
+unfolding inArea
+inside p here =
+    let h : p ≤ 0xEFF = leb-true p 0xEFF (both-right (leb 0x100 p) (leb p 0xEFF) here) in
+    record { low = leb-true 0x100 p (both-left (leb 0x100 p) (leb p 0xEFF) here); high = omega arith }
+
+-- a place outside the area
+pub away : (p : ℕ) → inArea p ≡ false → 0x100 ≤ p → p < 0xF00 → ⊥
+unfolding inArea
+away p out low high = not-both (rw (le-leb 0x100 p low) (le-leb p 0xEFF (omega arith))) out
+
+-- byte i's tile, row and half of it, put together again
+parts : (i : ℕ) → 16 * (16 * (i / 256) + i / 16 % 16) + 2 * (i / 2 % 8) + i % 2 ≡ i
+parts i =
+    let a : i / 2 / 8 ≡ i / 16 = div-div-eq-div-mul i 2 8 in
+    let b : i / 16 / 16 ≡ i / 256 = div-div-eq-div-mul i 16 16 in
+    let c : 16 * (i / 256) + i / 16 % 16 ≡ i / 16 = omega arith in
+    let d : 8 * (i / 16) + i / 2 % 8 ≡ i / 2 = omega arith in
+    omega arith
+
+module _ (p b : ℕ) (here : inArea p ≡ true) (small : b < 8) where
+  abbrev x : ℕ
+  x = columnAt p b
+
+  abbrev y : ℕ
+  y = rowAt p
+
+  abbrev j : ℕ
+  j = pixelAt p b
+
+  pub column-small : x < 128
+  column-small = omega arith
+
+  pub pixel-column : j % 128 ≡ x
+  pixel-column = let h = column-small in omega arith
+
+  pub pixel-row : j / 128 ≡ y
+  pixel-row = let h = column-small in omega arith
+
+  pub pixel-most : j < 14336
+  pixel-most =
+      let r = inside p here in
+      let low : 0x100 ≤ p = r .low in
+      let high : p < 0xF00 = r .high in
+      let a : (p - 0x100) / 256 < 14 = omega arith in
+      let h = column-small in
+      omega arith
+
+  bit-of : 7 - x % 8 ≡ b
+  bit-of = omega arith
+
+  place-of : tiles.place x y + p % 2 ≡ p
+  place-of =
+      let low : 0x100 ≤ p = inside p here .low in
+      let i = p - 0x100 in
+      let a : x / 8 ≡ (p - 0x100) / 16 % 16 = omega arith in
+      let b : y / 8 ≡ (p - 0x100) / 256 = omega arith in
+      let c : y % 8 ≡ (p - 0x100) / 2 % 8 = omega arith in
+      let d : p % 2 ≡ (p - 0x100) % 2 = omega arith in
+      rw (a, b, c, d) (omega (arith, parts (p - 0x100)))
+
+  -- the bit, of the shade that the RAM shows there
+  pub bit-shown : (ram : List ℕ) → bitOf (getD ram p 0) b ≡ bitAt p (shadeIn ram x y)
+  unfolding bitAt shadeIn
+  bit-shown ram =
+      split 0 (p % 2)
+      (λ odd.
+      let e : tiles.place x y + 1 ≡ p = omega (arith, place-of) in
+      rw (ne-eqb (p % 2) 0 (λ z. omega arith), e, bit-of) (omega arith))
+      (λ even.
+      let e : tiles.place x y ≡ p = omega (arith, place-of) in
+      rw (eq-eqb (p % 2) 0 (omega arith), e, bit-of) (omega arith))
+
+  -- a range of pixels put: the bit is the pixel's, if it is of the range, and else what it was
+  bit-put : (frame regs ram : List ℕ) (from to : ℕ) → to ≤ 14336 → 8192 ≤ length ram
+      → bitOf (getD (pixels frame regs from to ram) p 0) b
+      ≡ pick (leb from j && ltb j to) (bitAt p (pictureShade frame regs x y)) (bitOf (getD ram p 0) b)
+  bit-put frame regs ram from to most long =
+      let r = pixels frame regs from to ram in
+      let others = pixels-others frame regs from to ram most long j in
+      let kept : shadeIn r (j % 128) (j / 128) ≡ shadeIn ram (j % 128) (j / 128) → bitOf (getD r p 0) b ≡ bitOf (getD ram p 0) b =
+      λ e. bit-shown r ∙ ap (bitAt p) (rw (pixel-column, pixel-row) at e) ∙ sym (bit-shown ram) in
+      split j from
+      (λ early. kept (others (λ l _. omega arith)) ∙ rw (lt-leb from j early))
+      (λ on.
+      split j to
+      (λ l.
+      bit-shown r
+      ∙ ap (bitAt p) (rw (pixel-column, pixel-row) at (pixels-passed frame regs from to ram most long j on l))
+      ∙ rw (le-leb from j on, lt-ltb j to l))
+      (λ late. kept (others (λ _ l. omega arith)) ∙ rw (le-ltb j to late, and-false)))
+
+-- ---- one call
+
+-- a range of pixels is done between two moments exactly when their cycles fall between them
+pub passed : (regs : List ℕ) (j e : ℕ) → j < 14336 → ltb j (doneBy regs e) ≡ leb (cycleOf regs j) e
+unfolding doneBy cycleOf
+passed regs j e most =
+    let t = timed regs in
+    split e (2 * (readingFrom regs + (128 * (8 - firstRow regs) + j) + 1))
+    (λ early. le-ltb j (min (e / 2 - pictureFrom regs) 14336) (omega arith) ∙ sym (lt-leb (2 * (readingFrom regs + (128 * (8 - firstRow regs) + j) + 1)) e early))
+    (λ late. lt-ltb j (min (e / 2 - pictureFrom regs) 14336) (omega arith) ∙ sym (le-leb (2 * (readingFrom regs + (128 * (8 - firstRow regs) + j) + 1)) e late))
+
+waiting : (regs : List ℕ) (j e : ℕ) → j < 14336 → leb (doneBy regs e) j ≡ ltb e (cycleOf regs j)
+waiting regs j e most =
+    split j (doneBy regs e)
+    (λ l. lt-leb (doneBy regs e) j l ∙ sym (le-ltb e (cycleOf regs j) (leb-true (cycleOf regs j) e (sym (passed regs j e most) ∙ lt-ltb j (doneBy regs e) l))))
+    (λ l. le-leb (doneBy regs e) j l ∙ sym (lt-ltb e (cycleOf regs j) (leb-false (cycleOf regs j) e (sym (passed regs j e most) ∙ le-ltb j (doneBy regs e) l))))
+
+-- a RAM that is not allowed runs no cycle, nor does a capture that is not held
+pub short-runs : (t : Track) (k : Call) → ramAllowed (t .ramSize) ≡ false → runsIn t k ≡ 0
+unfolding runsIn tickAccepted
+short-runs t reset h = refl
+short-runs t (read rom a) h = refl
+short-runs t (write image a v) h = refl
+short-runs t (tick n) h = rw h
+short-runs t inspect h = refl
+short-runs t (choose light level plain exposure) h = refl
+short-runs t (place file) h = refl
+
+idle-runs : (t : Track) (k : Call) → t .held ≡ false → runsIn t k ≡ 0
+unfolding runsIn
+idle-runs t reset h = refl
+idle-runs t (read rom a) h = refl
+idle-runs t (write image a v) h = refl
+idle-runs t (tick n) h = simp (h, and-false)
+idle-runs t inspect h = refl
+idle-runs t (choose light level plain exposure) h = refl
+idle-runs t (place file) h = refl
+
+module _ (t : Track) (w : World) (m : Moment t w) (k : Call) where
+  pub ram-size : length (w .ram) ≡ t .ramSize
+  ram-size = ap (λ (u : Track). u .ramSize) (sym (m .told .same))
+
+  module _ (p b : ℕ) where
+    abbrev Put : Type 0
+    Put = bitOf (getD (put-next t w m k) p 0) b ≡ pick (sends t k p b) (shadeSent t p b) (bitOf (getD (w .ram) p 0) b)
+
+    -- no cycle runs: no pixel is sent
+    still-sends : runsIn t k ≡ 0 → sends t k p b ≡ false
+    unfolding sends
+    still-sends z =
+        split (t .ran) (cycleOf (t .taken) (pixelAt p b))
+        (λ l. rw (z, add-zero (t .ran), lt-leb (cycleOf (t .taken) (pixelAt p b)) (t .ran) l, and-false, and-false))
+        (λ l. rw (le-ltb (t .ran) (cycleOf (t .taken) (pixelAt p b)) l, and-false))
+
+    still : runsIn t k ≡ 0 → Put
+    still z = rw (still-sends z, z, add-zero (t .ran), pixels-none (w .store) (t .taken) (doneBy (t .taken) (t .ran)) (w .ram))
+
+    -- outside the area no pixel is sent
+    out-sends : inArea p ≡ false → sends t k p b ≡ false
+    unfolding sends
+    out-sends out = rw out
+
+    apart : inArea p ≡ false → Put
+    apart out = rw (out-sends out, pixels-outside (w .store) (t .taken) _ _ (w .ram) (done-most (t .taken) _) p (away p out))
+
+    -- the capture held sends its own pixel
+    runs : inArea p ≡ true → b < 8 → t .held ≡ true → ramAllowed (t .ramSize) ≡ true → Put
+    unfolding sends shadeSent
+    runs here small held ok =
+        let frame : w .store ≡ t .image = m .told .own (sym (ap (λ (u : Track). u .held) (m .told .same)) ∙ held) in
+        let long : 8192 ≤ length (w .ram) = rw ram-size (ram-lent (t .ramSize) ok .least) in
+        let most = pixel-most p b here small in
+        bit-put p b here small (w .store) (t .taken) (w .ram) (doneBy (t .taken) (t .ran)) (doneBy (t .taken) (t .ran + runsIn t k)) (done-most (t .taken) _) long
+        ∙ rw (here, waiting (t .taken) (pixelAt p b) (t .ran) most, passed (t .taken) (pixelAt p b) (t .ran + runsIn t k) most, frame)
+
+    put : (inArea p ≡ true → b < 8) → Put
+    put small =
+        by-test (inArea p)
+        (λ here.
+        by-test (t .held)
+        (λ held. by-test (ramAllowed (t .ramSize)) (λ ok. runs here (small here) held ok) (λ bad. still (short-runs t k bad)))
+        (λ off. still (idle-runs t k off)))
+        apart
+
+    -- one call: what it sends
+    bit-next : (inArea p ≡ true → b < 8) → bitOf (getD (leaves w k .ram) p 0) b ≡ sentIn p b t k (bitOf (getD (w .ram) p 0) b)
+    unfolding sentIn
+    bit-next small =
+        ap (λ (v : ℕ). bitOf v b) (byte-next t w m k p)
+        ∙ ap-pick (λ (v : ℕ). bitOf v b) (lands t k p) (byteIn k p) (getD (put-next t w m k) p 0)
+        ∙ ap (pick (lands t k p) (bitOf (byteIn k p) b)) (put small)
+
+-- ---- any calls
+
+pub bit-after : (p b : ℕ) → (inArea p ≡ true → b < 8) → (cs : List Call) (t : Track) (w : World) → Moment t w
+    → bitOf (getD (after w cs .ram) p 0) b ≡ lastSent p b t cs (bitOf (getD (w .ram) p 0) b)
+unfolding after lastSent
+bit-after p b small [] t w m = refl
+bit-after p b small (k ∷ cs) t w m =
+    bit-after p b small cs (next t k) (leaves w k) (moment-next t w m k) ∙ ap (lastSent p b (next t k) cs) (bit-next t w m k p b small)
+
+-- Touched: from reset, after any calls, over any RAM and frame store, each bit of the RAM is the last thing sent to it, or what it held
+-- at first; in the picture area each of the bits 0 to 7, and of every other byte each bit
+pub touched : (ram store : List ℕ) (cs : List Call) (p b : ℕ) → (inArea p ≡ true → b < 8)
+    → bitOf (getD (after (fresh ram store) cs .ram) p 0) b ≡ lastSent p b (atReset (length ram) (length store)) cs (bitOf (getD ram p 0) b)
+touched ram store cs p b small = bit-after p b small cs _ _ (at-reset ram store)
