@@ -2,51 +2,38 @@
 use mathlib.Core.Path.{_≡_, refl, sym, ap, _∙_}
 use mathlib.Core.Bool.{Bool, true, false, not, _&&_, and-false, or-true}
 use mathlib.Core.List.{List, [], _∷_, _++_}
-use Prim.Native.Nat.{ℕ, _+_, _-_, _*_, _/_, _%_, _<_, _≤_, min}
+use Prim.Native.Nat.{ℕ, _+_, _-_, _*_, _/_, _%_, _<_, _≤_}
 use native.Mathlib.Nat.{add-zero, zero-add, add-assoc}
 use native.Mathlib.Omega.{arith}
 use lib.Dec.{eqb, leb, ltb}
 use lib.ListN.{length, getD}
-use borrow.Author.Tests.{eq-eqb, lt-ltb, le-ltb, le-leb, lt-leb}
+use borrow.Author.Tests.{eq-eqb, ne-eqb, lt-ltb, le-ltb, le-leb, lt-leb}
 use Rattle.laws.specs.Pick.{pick}
-use Rattle.laws.specs.Bits.{isSet}
+use Rattle.laws.specs.Bits.{isSet, bitOf}
 use Rattle.laws.proofs.Order.{split}
 use Rattle.timing.specs.Lent.{ramAllowed}
 use Rattle.timing.specs.Timing.{readingFrom, firstRow}
 use Rattle.tiles.specs.Tiles.{shadeIn}
 use Rattle.tiles.specs.Tiles as tiles
 use Rattle.tiles.specs.Picture.{pictureShade}
-use Rattle.tiles.specs.Bulk.{pixels}
-use Rattle.timing.specs.Bulk.{pictureFrom, doneBy}
 use Rattle.timing.proofs.Lent.{ram-lent}
 use Rattle.laws.proofs.Bools.{both-left, both-right}
 use Rattle.controller.proofs.Exists.{neither-left, neither-right}
-use Rattle.tiles.proofs.Run.{pixels-none}
-use Rattle.timing.proofs.Range.{timed, done-mono, done-most, done-low}
-use Rattle.tiles.proofs.Pixels.{pixels-passed, pixels-others}
+use Rattle.tiles.proofs.Area.{Stands, stands}
 use Rattle.history.specs.History.{Call, reset, read, write, tick, inspect, choose, place, World, fresh, leaves, after, counted}
-use Rattle.history.specs.Track.{Track, writeAccepted, runsIn, toRegisters, starts, imageIn, registersAt, toRam, lands, next, told}
+use Rattle.history.specs.Track.{Track, atReset, writeAccepted, runsIn, toRegisters, starts, imageIn, registersAt, toRam, inArea, lands, next, follow, told}
 use Rattle.history.specs.Since.{Held, ofPixel, cycleOf, landed, Clear, goesOn}
+use Rattle.history.specs.Bits.{columnAt, rowAt, pixelAt, bitAt, sends, shadeSent, sentIn, lastSent}
 use Rattle.history.proofs.Picks.{not-both}
-use Rattle.history.proofs.Follows.{Moment, at-reset, moment-next, moment-after, count-next, put-next, byte-next, size-next}
-use Rattle.history.proofs.Outside.{ram-size, same-size}
-use Rattle.history.proofs.Goes.{Of, goes-next, first-goes, moment, moment-start, world-now, begun, same-world, same-count, start-count}
+use Rattle.history.proofs.Follows.{Moment, at-reset, moment-next, moment-after, count-next}
+use Rattle.history.proofs.Touched.{ram-size, still-sends, touched}
+use Rattle.history.proofs.Outside.{same-size}
+use Rattle.history.proofs.Goes.{Of, goes-next, first-goes, moment-start, begun, same-count, start-count}
 
--- pixel j is done exactly when its cycle has passed
-pub passed : (regs : List ℕ) (j e : ℕ) → j < 14336 → ltb j (doneBy regs e) ≡ leb (cycleOf regs j) e
-unfolding doneBy cycleOf
-passed regs j e most =
-    let t = timed regs in
-    split e (2 * (readingFrom regs + (128 * (8 - firstRow regs) + j) + 1))
-    (λ early. le-ltb j (min (e / 2 - pictureFrom regs) 14336) (omega arith) ∙ sym (lt-leb (2 * (readingFrom regs + (128 * (8 - firstRow regs) + j) + 1)) e early))
-    (λ late. lt-ltb j (min (e / 2 - pictureFrom regs) 14336) (omega arith) ∙ sym (le-leb (2 * (readingFrom regs + (128 * (8 - firstRow regs) + j) + 1)) e late))
-
--- the shade of a pixel is told by its two bytes
-same-shade : (r s : List ℕ) (j : ℕ) → ((p : ℕ) → ofPixel j p ≡ true → getD r p 0 ≡ getD s p 0) → shadeIn r (j % 128) (j / 128) ≡ shadeIn s (j % 128) (j / 128)
-unfolding ofPixel shadeIn
-same-shade r s j e =
-    let q = tiles.place (j % 128) (j / 128) in
-    rw (e q (rw (eq-eqb q q refl)), e (q + 1) (rw (eq-eqb (q + 1) (q + 1) refl) (or-true (eqb (q + 1) q))))
+-- no pixel is sent at once
+not-at-once : (regs : List ℕ) (j : ℕ) → leb (cycleOf regs j) 0 ≡ false
+unfolding cycleOf
+not-at-once regs j = lt-leb (2 * (readingFrom regs + (128 * (8 - firstRow regs) + j) + 1)) 0 (omega arith)
 
 -- a start is over a RAM of a size allowed
 starts-allowed : (t : Track) (k : Call) → starts t k ≡ true → ramAllowed (t .ramSize) ≡ true
@@ -59,46 +46,97 @@ starts-allowed t inspect h = not-both h refl
 starts-allowed t (choose light level plain exposure) h = not-both h refl
 starts-allowed t (place file) h = not-both h refl
 
-module _ (image regs old : List ℕ) (j : ℕ) (most : j < 14336) where
-  abbrev fresh-shade : ℕ
-  fresh-shade = pictureShade image regs (j % 128) (j / 128)
+-- ---- a pixel's two bits
 
-  abbrev shade : List ℕ → ℕ
-  shade ram = shadeIn ram (j % 128) (j / 128)
+-- bit d of pixel j stands at its place and d, as bit 7 − x mod 8
+module _ (j d : ℕ) (most : j < 14336) (bit : d < 2) where
+  abbrev pub spot : ℕ
+  spot = tiles.place (j % 128) (j / 128) + d
 
-  -- after e cycles pixel j is the fresh picture's if it is done, and else what it was
-  abbrev pub Shown : ℕ → List ℕ → Type 0
-  Shown e ram = shade ram ≡ pick (ltb j (doneBy regs e)) fresh-shade (shade old)
+  abbrev pub nth : ℕ
+  nth = 7 - j % 128 % 8
 
-  -- the pixels of more cycles
-  more-shown : (e n : ℕ) (ram : List ℕ) → 8192 ≤ length ram → Shown e ram → Shown (e + n) (pixels image regs (doneBy regs e) (doneBy regs (e + n)) ram)
-  more-shown e n ram long s =
-      let up : doneBy regs e ≤ doneBy regs (e + n) = done-mono regs e (e + n) (omega arith) in
-      split j (doneBy regs e)
-      (λ a.
-      pixels-others image regs _ _ ram (done-most regs (e + n)) long j (λ b _. omega arith)
-      ∙ s
-      ∙ rw (lt-ltb j (doneBy regs e) a, lt-ltb j (doneBy regs (e + n)) (omega arith)))
-      (λ a.
-      split j (doneBy regs (e + n))
-      (λ b. pixels-passed image regs _ _ ram (done-most regs (e + n)) long j a b ∙ rw (lt-ltb j (doneBy regs (e + n)) b))
-      (λ b.
-      pixels-others image regs _ _ ram (done-most regs (e + n)) long j (λ _ c. omega arith)
-      ∙ s
-      ∙ rw (le-ltb j (doneBy regs e) a, le-ltb j (doneBy regs (e + n)) b)))
+  pub at-inside : inArea spot ≡ true
+  unfolding inArea
+  at-inside = rw (le-leb 0x100 spot (omega arith)) (le-leb spot 0xEFF (omega arith))
+
+  parted : Stands (spot - 0x100) (j % 128 / 8) (j / 128) d
+  parted = stands (spot - 0x100) (j % 128 / 8) (j / 128) d (omega arith) bit (omega arith)
+
+  pub at-column : columnAt spot nth ≡ j % 128
+  at-column = rw (parted .column) (omega arith)
+
+  pub at-row : rowAt spot ≡ j / 128
+  at-row = parted .line
+
+  pub at-pixel : pixelAt spot nth ≡ j
+  at-pixel = rw (at-column, at-row) (omega arith)
+
+  pub at-of : ofPixel j spot ≡ true
+  unfolding ofPixel
+  at-of =
+      let q = tiles.place (j % 128) (j / 128) in
+      split d 1
+      (λ l. let z : d ≡ 0 = omega arith in rw (z, add-zero q, eq-eqb q q refl))
+      (λ l. let z : d ≡ 1 = omega arith in rw (z, eq-eqb (q + 1) (q + 1) refl) (or-true (eqb (q + 1) q)))
+
+-- a shade by its two bits: fresh in both, or what they were in both
+pub shade-of-bits : (r old : List ℕ) (j s : ℕ) (most : j < 14336) (t : Bool)
+    → ((d : ℕ) (bit : d < 2) → bitOf (getD r (spot j d most bit) 0) (nth j d most bit)
+    ≡ pick t (bitAt (spot j d most bit) s) (bitOf (getD old (spot j d most bit) 0) (nth j d most bit)))
+    → shadeIn r (j % 128) (j / 128) ≡ pick t s (shadeIn old (j % 128) (j / 128))
+unfolding shadeIn bitAt
+shade-of-bits r old j s most true e =
+    let q = tiles.place (j % 128) (j / 128) in
+    let low : bitOf (getD r q 0) (7 - j % 128 % 8) ≡ s % 2 = rw (add-zero q, eq-eqb (q % 2) 0 (omega arith)) at (e 0 (omega arith)) in
+    let high : bitOf (getD r (q + 1) 0) (7 - j % 128 % 8) ≡ s / 2 = rw (ne-eqb ((q + 1) % 2) 0 (λ z. omega arith)) at (e 1 (omega arith)) in
+    rw (low, high) (omega arith)
+shade-of-bits r old j s most false e =
+    let q = tiles.place (j % 128) (j / 128) in
+    let low : bitOf (getD r q 0) (7 - j % 128 % 8) ≡ bitOf (getD old q 0) (7 - j % 128 % 8) = rw (add-zero q) at (e 0 (omega arith)) in
+    rw (low, e 1 (omega arith))
+
+-- ---- what is sent to a bit from a start on
+
+-- a list of calls after another
+pub sent-append : (p b : ℕ) (xs ys : List Call) (t : Track) (first : ℕ) → lastSent p b t (xs ++ ys) first ≡ lastSent p b (follow t xs) ys (lastSent p b t xs first)
+unfolding lastSent follow
+sent-append p b [] ys t first = refl
+sent-append p b (k ∷ xs) ys t first = sent-append p b xs ys (next t k) (sentIn p b t k first)
+
+module _ (image regs : List ℕ) (p b was : ℕ) (here : inArea p ≡ true) where
+  abbrev cycle : ℕ
+  cycle = cycleOf regs (pixelAt p b)
+
+  -- after n cycles: the shade afresh if the pixel's cycle has run, and else what it was
+  abbrev pub sent-by : ℕ → ℕ
+  sent-by n = pick (leb cycle n) (bitAt p (pictureShade image regs (columnAt p b) (rowAt p))) was
+
+  -- r cycles more
+  more-sent : (frame taken : List ℕ) (e n r : ℕ) → frame ≡ image → taken ≡ regs → e ≡ n
+      → pick (ltb e (cycleOf taken (pixelAt p b)) && leb (cycleOf taken (pixelAt p b)) (e + r)) (bitAt p (pictureShade frame taken (columnAt p b) (rowAt p))) (sent-by n)
+      ≡ sent-by (n + r)
+  more-sent frame taken e n r i t h =
+      rw (i, t, h)
+      (split n cycle
+      (λ early. rw (lt-ltb n cycle early, lt-leb cycle n early))
+      (λ late. rw (le-ltb n cycle late, le-leb cycle n late, le-leb cycle (n + r) (omega arith))))
 
   -- one call
-  pub shown-next : (t : Track) (w : World) (m : Moment t w) (n : ℕ) (k : Call) → Of image regs n t → 8192 ≤ length (w .ram)
-      → ((p : ℕ) → ofPixel j p ≡ true → lands t k p ≡ false) → Shown n (w .ram) → Shown (n + runsIn t k) (leaves w k .ram)
-  shown-next t w m n k o long out s =
-      let held : w .state .held ≡ true = sym (ap (λ (u : Track). u .held) (m .told .same)) ∙ o .held in
-      let frame : w .store ≡ image = m .told .own held ∙ o .image in
-      let taken : t .taken ≡ regs = o .taken in
-      let ran : t .ran ≡ n = o .ran in
-      let same : put-next t w m k ≡ pixels image regs (doneBy regs n) (doneBy regs (n + runsIn t k)) (w .ram) = cc in
-      same-shade (leaves w k .ram) (put-next t w m k) j (λ p here. byte-next t w m k p ∙ rw (out p here))
-      ∙ ap shade same
-      ∙ more-shown n (runsIn t k) (w .ram) long s
+  pub sent-next : (t : Track) (n : ℕ) (k : Call) → Of image regs n t → lands t k p ≡ false → sentIn p b t k (sent-by n) ≡ sent-by (n + runsIn t k)
+  unfolding sentIn sends shadeSent
+  sent-next t n k o out = rw (out, here) (more-sent (t .image) (t .taken) (t .ran) n (runsIn t k) (o .image) (o .taken) (o .ran))
+
+  -- calls through which the capture goes on
+  pub sent-through : (cs : List Call) (t : Track) (w : World) → Moment t w → (n : ℕ) → Of image regs n t → goesOn t cs ≡ true → landed p t cs ≡ false
+      → lastSent p b t cs (sent-by n) ≡ sent-by (n + counted w cs)
+  unfolding lastSent counted landed
+  sent-through [] t w m n o g c = rw (add-zero n)
+  sent-through (k ∷ cs) t w m n o g c =
+      let f = first-goes t k cs g in
+      ap (lastSent p b (next t k) cs) (sent-next t n k o (neither-left (lands t k p) (landed p (next t k) cs) c))
+      ∙ sent-through cs (next t k) (leaves w k) (moment-next t w m k) (n + runsIn t k) (goes-next t o k (f .0) (f .1)) (f .2) (neither-right (lands t k p) (landed p (next t k) cs) c)
+      ∙ rw (count-next t w m k, add-assoc n (runsIn t k) (counted (leaves w k) cs))
 
 -- where no call landed, the first did not and the others did not
 pub first-clear : (places : ℕ → Bool) (t : Track) (k : Call) (cs : List Call) → Clear places t (k ∷ cs)
@@ -106,27 +144,6 @@ pub first-clear : (places : ℕ → Bool) (t : Track) (k : Call) (cs : List Call
 unfolding landed
 first-clear places t k cs c =
     (λ p here. neither-left (lands t k p) (landed p (next t k) cs) (c p here), λ p here. neither-right (lands t k p) (landed p (next t k) cs) (c p here))
-
--- calls through which the capture goes on
-pub shown-through : (image regs old : List ℕ) (j : ℕ) (most : j < 14336) (cs : List Call) (t : Track) (w : World) (m : Moment t w) (n : ℕ)
-    → Of image regs n t
-    → 8192 ≤ length (w .ram)
-    → goesOn t cs ≡ true
-    → Clear (ofPixel j) t cs
-    → Shown image regs old j most n (w .ram)
-    → Shown image regs old j most (n + counted w cs) (after w cs .ram)
-unfolding after counted
-shown-through image regs old j most [] t w m n o long g c s = rw (add-zero n) s
-shown-through image regs old j most (k ∷ cs) t w m n o long g c s =
-    let f = first-goes t k cs g in
-    let q = first-clear (ofPixel j) t k cs c in
-    rw (count-next t w m k, ← add-assoc n (runsIn t k) (counted (leaves w k) cs))
-    (shown-through image regs old j most cs (next t k) (leaves w k) (moment-next t w m k) (n + runsIn t k)
-    (goes-next t o k (f .0) (f .1))
-    (rw (size-next t w m k) long)
-    (f .2)
-    (q .1)
-    (shown-next image regs old j most t w m n k o long (q .0) s))
 
 -- ---- from reset
 
@@ -146,9 +163,9 @@ starts-lands t inspect p h = refl
 starts-lands t (choose light level plain exposure) p h = refl
 starts-lands t (place file) p h = not-both h refl
 
-start-byte : (t : Track) (w : World) (m : Moment t w) (k : Call) (p : ℕ) → starts t k ≡ true → getD (leaves w k .ram) p 0 ≡ getD (w .ram) p 0
-start-byte t w m k p h =
-    byte-next t w m k p ∙ rw (starts-lands t k p h, start-count t k h, add-zero (t .ran), pixels-none (w .store) (t .taken) (doneBy (t .taken) (t .ran)) (w .ram))
+start-sent : (t : Track) (k : Call) (p b was : ℕ) → starts t k ≡ true → sentIn p b t k was ≡ was
+unfolding sentIn
+start-sent t k p b was h = rw (starts-lands t k p h, still-sends t k p b (start-count t k h))
 
 -- it is over a RAM of a size allowed, of one bank at least
 pub allowed-ram : (ram store : List ℕ) (before : List Call) (start : Call) → starts (told ram store before) start ≡ true → ramAllowed (length ram) ≡ true
@@ -159,36 +176,36 @@ allowed-ram ram store before start h =
 pub long-ram : (ram store : List ℕ) (before : List Call) (start : Call) → starts (told ram store before) start ≡ true → 8192 ≤ length ram
 long-ram ram store before start h = ram-lent (length ram) (allowed-ram ram store before start h) .least
 
-module _ (ram store : List ℕ) (before : List Call) (start : Call) (between : List Call) (h : Held (told ram store before) start between) (j : ℕ) (most : j < 14336) (c : Clear (ofPixel j) (next (told ram store before) start) between) where
+module _ (ram store : List ℕ) (before : List Call) (start : Call) (p b : ℕ) (here : inArea p ≡ true) (small : b < 8) (begins : starts (told ram store before) start ≡ true) where
   abbrev t₀ : Track
   t₀ = told ram store before
 
   abbrev w₀ : World
   w₀ = after (fresh ram store) before
 
-  long-now : 8192 ≤ length (leaves w₀ start .ram)
-  long-now =
-      rw (size-next t₀ w₀ (moment ram store before start between h) start, same-size ram store before)
-      (long-ram ram store before start (h .begins))
+  abbrev was : ℕ
+  was = bitOf (getD (w₀ .ram) p 0) b
 
-  -- at the start no pixel is done
-  shown-first : Shown (imageIn start) (registersAt t₀ start) (w₀ .ram) j most 0 (leaves w₀ start .ram)
-  shown-first =
-      rw (done-low (registersAt t₀ start) 0 (omega arith), le-ltb j 0 (omega arith))
-      (same-shade (leaves w₀ start .ram) (w₀ .ram) j (λ p _. start-byte t₀ w₀ (moment ram store before start between h) start p (h .begins)))
+  -- after so many cycles of its capture
+  abbrev pub since-start : ℕ → ℕ
+  since-start = sent-by (imageIn start) (registersAt t₀ start) p b was here
 
-  pub shown-now : Shown (imageIn start) (registersAt t₀ start) (w₀ .ram) j most (counted w₀ (start ∷ between)) (world-now ram store before start between h .ram)
-  shown-now =
-      rw (same-count ram store before start between h)
-      (rw zero-add at
-      (shown-through (imageIn start) (registersAt t₀ start) (w₀ .ram) j most between (next t₀ start) (leaves w₀ start)
-      (moment-start ram store before start between h)
-      0
-      (begun ram store before start between h)
-      long-now
-      (h .goes)
-      c
-      shown-first))
+  -- by *touched*, all that is told of a bit before the start is what it was then; at the start no pixel is sent
+  pub sent-start : (rest : List Call) → bitOf (getD (after (fresh ram store) (before ++ (start ∷ rest)) .ram) p 0) b ≡ lastSent p b (next t₀ start) rest (since-start 0)
+  unfolding lastSent
+  sent-start rest =
+      touched ram store (before ++ (start ∷ rest)) p b (λ _. small)
+      ∙ sent-append p b before (start ∷ rest) (atReset (length ram) (length store)) (bitOf (getD ram p 0) b)
+      ∙ ap (lastSent p b t₀ (start ∷ rest)) (sym (touched ram store before p b (λ _. small)))
+      ∙ ap (lastSent p b (next t₀ start) rest) (start-sent t₀ start p b was begins ∙ rw (not-at-once (registersAt t₀ start) (pixelAt p b)))
+
+  -- while its capture goes on
+  pub sent-now : (between : List Call) (h : Held t₀ start between) → landed p (next t₀ start) between ≡ false
+      → lastSent p b (next t₀ start) between (since-start 0) ≡ since-start (counted w₀ (start ∷ between))
+  sent-now between h c =
+      sent-through (imageIn start) (registersAt t₀ start) p b was here between (next t₀ start) (leaves w₀ start)
+      (moment-start ram store before start between h) 0 (begun ram store before start between h) (h .goes) c
+      ∙ rw (same-count ram store before start between h, zero-add (counted (leaves w₀ start) between))
 
 -- Half picture: any calls, a start, any calls through which its capture goes on, none of which landed in pixel j's two bytes: pixel j is
 -- the fresh picture's if the cycles counted since the start reach its cycle, and else what it was at the start
@@ -201,5 +218,15 @@ pub half-picture : (ram store : List ℕ) (before : List Call) (start : Call) (b
     (pictureShade (imageIn start) (registersAt (told ram store before) start) (j % 128) (j / 128))
     (shadeIn (after (fresh ram store) before .ram) (j % 128) (j / 128))
 half-picture ram store before start between j most h c =
-    rw (same-world ram store before start between h, ← passed (registersAt (told ram store before) start) j (counted (after (fresh ram store) before) (start ∷ between)) most)
-    (shown-now ram store before start between h j most c)
+    let regs = registersAt (told ram store before) start in
+    let s = pictureShade (imageIn start) regs (j % 128) (j / 128) in
+    let n = counted (after (fresh ram store) before) (start ∷ between) in
+    shade-of-bits (after (fresh ram store) (before ++ (start ∷ between)) .ram) (after (fresh ram store) before .ram) j s most (leb (cycleOf regs j) n)
+    (λ d bit.
+    let p = spot j d most bit in
+    let b = nth j d most bit in
+    let here = at-inside j d most bit in
+    let small : nth j d most bit < 8 = omega arith in
+    rw (at-pixel j d most bit, at-column j d most bit, at-row j d most bit) at
+    (sent-start ram store before start p b here small (h .begins) between
+    ∙ sent-now ram store before start p b here small (h .begins) between h (c p (at-of j d most bit))))

@@ -2,37 +2,43 @@
 use mathlib.Core.Path.{_≡_, refl, sym, ap, _∙_}
 use mathlib.Core.Bool.{false}
 use mathlib.Core.List.{List, [], _∷_}
-use Prim.Native.Nat.{ℕ, _<_, _≤_}
+use Prim.Native.Nat.{ℕ, zero, suc, _+_, _^_, _<_, _≤_}
+use native.Mathlib.Nat.{pow-suc}
 use native.Mathlib.Omega.{arith}
 use lib.ListN.{length, getD}
-use borrow.Author.Tests.{le-leb}
+use lib.Pow.{pow-mono}
 use Rattle.laws.specs.Pick.{pick}
-use Rattle.timing.proofs.Range.{done-most}
-use Rattle.tiles.proofs.Pixels.{pixels-outside}
+use Rattle.laws.specs.Bits.{bitOf}
+use Rattle.laws.proofs.BitLaws.{bits-below}
+use Rattle.controller.proofs.TickSum.{ap-pick}
 use Rattle.history.specs.History.{Call, World, fresh, leaves, after}
 use Rattle.history.specs.Track.{Track, atReset, inArea, lands, byteIn, next}
 use Rattle.history.specs.Since.{lastIn}
+use Rattle.history.specs.Bits.{sentIn, lastSent}
 use Rattle.history.proofs.Picks.{not-both}
-use Rattle.history.proofs.Follows.{Moment, at-reset, moment-next, byte-next, size-next}
+use Rattle.history.proofs.Follows.{Moment, at-reset, moment-next, size-next}
+use Rattle.history.proofs.Touched.{out-sends, touched}
 
--- a place outside the area
-away : (p : ℕ) → inArea p ≡ false → 0x100 ≤ p → p < 0xF00 → ⊥
-unfolding inArea
-away p out low high = not-both (rw (le-leb 0x100 p low) (le-leb p 0xEFF (omega arith))) out
+-- a number is below the power of two of as many bits as it counts
+below : (n : ℕ) → n < 2 ^ n
+below zero = omega arith
+below (suc n) = rw (pow-suc 2 n) (omega (arith, below n))
 
-module _ (t : Track) (w : World) (m : Moment t w) (k : Call) where
-  pub ram-size : length (w .ram) ≡ t .ramSize
-  ram-size = ap (λ (u : Track). u .ramSize) (sym (m .told .same))
+-- numbers with the same bits are the same
+same-bits : (x y : ℕ) → ((b : ℕ) → bitOf x b ≡ bitOf y b) → x ≡ y
+same-bits x y e =
+    let px : 2 ^ x ≤ 2 ^ (x + y) = pow-mono (omega arith) in
+    let py : 2 ^ y ≤ 2 ^ (x + y) = pow-mono (omega arith) in
+    bits-below (x + y) x y (omega (arith, below x)) (omega (arith, below y)) (λ b _. e b)
 
-  -- one call: a byte that landed there, or what was there
-  outside-next : (p : ℕ) → inArea p ≡ false → getD (leaves w k .ram) p 0 ≡ pick (lands t k p) (byteIn k p) (getD (w .ram) p 0)
-  outside-next p out = byte-next t w m k p ∙ ap (pick (lands t k p) (byteIn k p)) (pixels-outside (w .store) (t .taken) _ _ (w .ram) (done-most (t .taken) _) p (away p out))
-
-last-byte : (p : ℕ) → inArea p ≡ false → (cs : List Call) (t : Track) (w : World) → Moment t w → getD (after w cs .ram) p 0 ≡ lastIn p t cs (getD (w .ram) p 0)
-unfolding after lastIn
-last-byte p out [] t w m = refl
-last-byte p out (k ∷ cs) t w m =
-    last-byte p out cs (next t k) (leaves w k) (moment-next t w m k) ∙ ap (lastIn p (next t k) cs) (outside-next t w m k p out)
+-- outside the area the last thing sent to a bit is that bit of the last byte that landed
+sent-landed : (p b : ℕ) → inArea p ≡ false → (cs : List Call) (t : Track) (first : ℕ) → lastSent p b t cs (bitOf first b) ≡ bitOf (lastIn p t cs first) b
+unfolding lastSent lastIn
+sent-landed p b out [] t first = refl
+sent-landed p b out (k ∷ cs) t first = ap (lastSent p b (next t k) cs) one ∙ sent-landed p b out cs (next t k) (pick (lands t k p) (byteIn k p) first)
+  where
+    one : sentIn p b t k (bitOf first b) ≡ bitOf (pick (lands t k p) (byteIn k p) first) b
+    one = unfold sentIn in rw (out-sends t k p b out) (sym (ap-pick (λ (v : ℕ). bitOf v b) (lands t k p) (byteIn k p) first))
 
 pub size-after : (cs : List Call) (t : Track) (w : World) → Moment t w → length (after w cs .ram) ≡ length (w .ram)
 unfolding after
@@ -42,7 +48,9 @@ size-after (k ∷ cs) t w m = size-after cs (next t k) (leaves w k) (moment-next
 -- Outside: from reset, after any calls, each RAM byte outside the picture area is the last bus write that landed there, or what it held at first
 pub outside : (ram store : List ℕ) (cs : List Call) (p : ℕ) → inArea p ≡ false
     → getD (after (fresh ram store) cs .ram) p 0 ≡ lastIn p (atReset (length ram) (length store)) cs (getD ram p 0)
-outside ram store cs p out = last-byte p out cs _ _ (at-reset ram store)
+outside ram store cs p out =
+    same-bits _ _
+    (λ b. touched ram store cs p b (λ here. not-both here out) ∙ sent-landed p b out cs (atReset (length ram) (length store)) (getD ram p 0))
 
 -- and the RAM has as many bytes as at first
 pub same-size : (ram store : List ℕ) (cs : List Call) → length (after (fresh ram store) cs .ram) ≡ length ram

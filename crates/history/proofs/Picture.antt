@@ -2,17 +2,17 @@
 use mathlib.Core.Path.{_≡_, refl, sym, ap, _∙_}
 use mathlib.Core.Bool.{true, false, not}
 use mathlib.Core.List.{List, [], _∷_, _++_}
-use Prim.Native.Nat.{ℕ, _+_, _-_, _*_, _/_, _%_, _<_, _≤_}
+use Prim.Native.Nat.{ℕ, _+_, _-_, _*_, _/_, _%_, _<_}
 use native.Mathlib.Nat.{add-zero}
 use native.Mathlib.Omega.{arith}
-use lib.Dec.{eqb}
+use lib.Dec.{leb}
 use lib.ListN.{length, getD, drop, length-take, length-drop}
 use lib.Seq.{getD-take, getD-drop, ext-getD}
-use borrow.Author.Tests.{eqb-true, ltb-true, lt-ltb, le-leb, not-true}
+use borrow.Author.Tests.{ltb-true, lt-ltb, le-leb, not-true}
+use Rattle.laws.specs.Bits.{bitOf}
 use Rattle.laws.proofs.Pick.{pick-ind}
 use Rattle.timing.specs.Lent.{ramAllowed}
 use Rattle.tiles.specs.Tiles.{shadeIn, areaOf, Bytes}
-use Rattle.tiles.specs.Tiles as tiles
 use Rattle.tiles.specs.Picture.{pictureShade, pictureOf}
 use Rattle.timing.specs.Bulk.{doneBy}
 use Rattle.timing.proofs.Lent.{ram-lent}
@@ -25,15 +25,17 @@ use Rattle.plates.specs.Grey.{plateOf, plateAfresh}
 use Rattle.plates.specs.Placing.{pixelsOf}
 use Rattle.plates.proofs.Same.{afresh-plate}
 use Rattle.history.specs.History.{Call, reset, read, write, tick, inspect, choose, place, World, fresh, leaves, after, counted}
-use Rattle.history.specs.Track.{Track, tickAccepted, runsIn, starts, ends, imageIn, registersAt, inArea, lands, byteIn, next, told}
-use Rattle.history.specs.Since.{Whole, ofPixel, Clear, noStart, writesByte, bytesIn}
+use Rattle.history.specs.Track.{Track, runsIn, starts, ends, imageIn, registersAt, inArea, lands, byteIn, next, told}
+use Rattle.history.specs.Since.{Whole, cycleOf, Clear, noStart, writesByte, bytesIn}
+use Rattle.history.specs.Bits.{columnAt, rowAt, pixelAt, bitAt, sentIn, lastSent}
 use Rattle.history.proofs.Picks.{by-test, not-both}
 use Rattle.history.proofs.Area.{area-small}
 use Rattle.history.proofs.Follows.{Moment, at-reset, moment-next, moment-after, put-next, byte-next, cycles-total}
-use Rattle.history.proofs.Outside.{ram-size, size-after, same-size}
-use Rattle.history.proofs.Goes.{Of, rests-next, end-count, on, same-world, now-last, world-last, moment-last, whole-world}
+use Rattle.history.proofs.Touched.{passed, short-runs, ram-size, pixel-most}
+use Rattle.history.proofs.Outside.{size-after, same-size}
+use Rattle.history.proofs.Goes.{Of, rests-next, end-count, on, now-last, world-last, moment-last}
 use Rattle.history.proofs.OwnFrame.{at-end}
-use Rattle.history.proofs.HalfPicture.{shown-next, shown-now, first-clear, long-ram}
+use Rattle.history.proofs.HalfPicture.{spot, nth, at-inside, at-column, at-row, shade-of-bits, sent-append, sent-next, since-start, sent-start, sent-now, first-clear, long-ram}
 
 -- ---- bytes stay bytes
 
@@ -46,17 +48,6 @@ byte-small (tick n) p h = omega arith
 byte-small inspect p h = omega arith
 byte-small (choose light level plain exposure) p h = omega arith
 byte-small (place file) p h = area-small (pixelsOf file) (p - 0x100)
-
--- a RAM that is not allowed runs no cycle
-short-runs : (t : Track) (k : Call) → ramAllowed (t .ramSize) ≡ false → runsIn t k ≡ 0
-unfolding runsIn tickAccepted
-short-runs t reset h = refl
-short-runs t (read rom a) h = refl
-short-runs t (write image a v) h = refl
-short-runs t (tick n) h = rw h
-short-runs t inspect h = refl
-short-runs t (choose light level plain exposure) h = refl
-short-runs t (place file) h = refl
 
 put-bytes : (t : Track) (w : World) (m : Moment t w) (k : Call) → Bytes (w .ram) → Bytes (put-next t w m k)
 put-bytes t w m k b =
@@ -74,16 +65,6 @@ bytes-after [] t w m s b = b
 bytes-after (k ∷ cs) t w m s b =
     bytes-after cs (next t k) (leaves w k) (moment-next t w m k) (both-right (writesByte k) (bytesIn cs) s)
     (bytes-next t w m k (both-left (writesByte k) (bytesIn cs) s) b)
-
--- ---- a pixel's bytes stand in the area
-
-within : (j p : ℕ) → j < 14336 → ofPixel j p ≡ true → inArea p ≡ true
-unfolding ofPixel inArea
-within j p most h =
-    let q = tiles.place (j % 128) (j / 128) in
-    by-test (eqb p q)
-    (λ here. let e : p ≡ q = eqb-true p q here in rw (le-leb 0x100 p (omega arith)) (le-leb p 0xEFF (omega arith)))
-    (λ other. let e : p ≡ q + 1 = eqb-true p (q + 1) (rw other at h) in rw (le-leb 0x100 p (omega arith)) (le-leb p 0xEFF (omega arith)))
 
 -- ---- the end
 
@@ -127,15 +108,32 @@ module _ (ram store : List ℕ) (before : List Call) (start : Call) (between : L
   all-done : doneBy regs (n + runsIn t last) ≡ 14336
   all-done = rw (← o .ran, end-count t last (h .over) .1, o .taken, cycles-total regs) (done-all regs)
 
-  long : 8192 ≤ length (w .ram)
-  long = rw (← same-world ram store before start between (h .held), same-size ram store (before ++ (start ∷ between))) (long-ram ram store before start (h .held .begins))
+  -- so the cycle of each has run
+  all-run : (j : ℕ) → j < 14336 → leb (cycleOf regs j) (n + runsIn t last) ≡ true
+  all-run j most = sym (passed regs j (n + runsIn t last) most) ∙ rw all-done (lt-ltb j 14336 most)
 
   module _ (c : Clear inArea (next t₀ start) between) where
-    pixel-done : (j : ℕ) → j < 14336 → shadeIn (leaves w last .ram) (j % 128) (j / 128) ≡ pictureShade (imageIn start) regs (j % 128) (j / 128)
+    abbrev calls : List Call
+    calls = before ++ (start ∷ (between ++ (last ∷ [])))
+
+    -- the last thing sent to each bit of a pixel is its bit of the shade afresh
+    bit-done : (p b : ℕ) (here : inArea p ≡ true) → b < 8
+        → bitOf (getD (after (fresh ram store) calls .ram) p 0) b ≡ bitAt p (pictureShade (imageIn start) regs (columnAt p b) (rowAt p))
+    unfolding lastSent
+    bit-done p b here small =
+        let was = bitOf (getD (w₀ .ram) p 0) b in
+        let by = since-start ram store before start p b here small (h .held .begins) in
+        sent-start ram store before start p b here small (h .held .begins) (between ++ (last ∷ []))
+        ∙ sent-append p b between (last ∷ []) (next t₀ start) (by 0)
+        ∙ ap (sentIn p b t last) (sent-now ram store before start p b here small (h .held .begins) between (h .held) (c p here))
+        ∙ sent-next (imageIn start) regs p b was here t n last o (ends-lands t last p (h .over))
+        ∙ rw (all-run (pixelAt p b) (pixel-most p b here small))
+
+    pixel-done : (j : ℕ) → j < 14336 → shadeIn (after (fresh ram store) calls .ram) (j % 128) (j / 128) ≡ pictureShade (imageIn start) regs (j % 128) (j / 128)
     pixel-done j most =
-        rw (all-done, lt-ltb j 14336 most) at
-        (shown-next (imageIn start) regs (w₀ .ram) j most t w m n last o long (λ p _. ends-lands t last p (h .over))
-        (shown-now ram store before start between (h .held) j most (λ p here. c p (within j p most here))))
+        shade-of-bits (after (fresh ram store) calls .ram) (w₀ .ram) j (pictureShade (imageIn start) regs (j % 128) (j / 128)) most true
+        (λ d bit.
+        rw (at-column j d most bit, at-row j d most bit) at (bit-done (spot j d most bit) (nth j d most bit) (at-inside j d most bit) (omega arith)))
 
 -- Picture: any calls, a start, any calls with no reset up to and with the one in which that capture reaches its end, none of which landed
 -- in the picture area: the area's 3,584 bytes are the picture afresh from the image lent at the start and the registers at the start
@@ -153,7 +151,7 @@ picture ram store before start between last h c first bytes =
     (λ x y hx hy.
     let a : (y * 128 + x) % 128 ≡ x = omega arith in
     let b : (y * 128 + x) / 128 ≡ y = omega arith in
-    rw (whole-world ram store before start between last h) (rw (a, b) at (pixel-done ram store before start between last h c (y * 128 + x) (omega arith))))
+    rw (a, b) at (pixel-done ram store before start between last h c (y * 128 + x) (omega arith)))
 
 -- Plate: the file exported of such a plate is the file of the picture afresh
 pub plate : (ram store : List ℕ) (before : List Call) (start : Call) (between : List Call) (last : Call)

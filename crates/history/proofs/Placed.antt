@@ -36,7 +36,8 @@ use Rattle.history.proofs.Follows.{Moment, at-reset, moment-next, momen
 use Rattle.history.proofs.Goes.{after-append, world-now, moment-now, on, same-world}
 use Rattle.history.proofs.HalfPicture.{allowed-ram}
 use Rattle.history.proofs.Picture.{stays-through, area-same}
-use Rattle.history.proofs.Outside.{ram-size, size-after, same-size}
+use Rattle.history.proofs.Touched.{ram-size}
+use Rattle.history.proofs.Outside.{size-after, same-size}
 use Rattle.history.proofs.Chosen.{Lends, with-state, select-leaves}
 use Rattle.history.proofs.Reachable.{reachable}
 

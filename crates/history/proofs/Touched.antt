@@ -1,17 +1,16 @@
 -- Each bit of the RAM is the last thing that was sent to it, or what it held at first. Assumes nothing.
 use mathlib.Core.Path.{_≡_, refl, sym, ap, _∙_}
-use mathlib.Core.Bool.{Bool, true, false, _&&_, and-false}
-use mathlib.Core.List.{List, [], _∷_, _++_}
-use Prim.Native.Nat.{ℕ, zero, suc, _+_, _-_, _*_, _/_, _%_, _^_, _<_, _≤_, min}
-use native.Mathlib.Nat.{add-zero, div-one, div-div-eq-div-mul, pow-suc}
+use mathlib.Core.Bool.{true, false, _&&_, and-false}
+use mathlib.Core.List.{List, [], _∷_}
+use Prim.Native.Nat.{ℕ, _+_, _-_, _*_, _/_, _%_, _<_, _≤_, min}
+use native.Mathlib.Nat.{add-zero, div-div-eq-div-mul}
 use native.Mathlib.Omega.{arith}
-use lib.Dec.{eqb, leb, ltb}
+use lib.Dec.{leb, ltb}
 use lib.ListN.{length, getD}
 use borrow.Author.Tests.{eq-eqb, ne-eqb, leb-true, leb-false, le-leb, lt-leb, lt-ltb, le-ltb}
 use Rattle.laws.specs.Pick.{pick}
 use Rattle.laws.specs.Bits.{bitOf}
 use Rattle.laws.proofs.Order.{split}
-use Rattle.laws.proofs.Pick.{pick-same}
 use Rattle.laws.proofs.Bools.{both-left, both-right}
 use Rattle.timing.specs.Lent.{ramAllowed}
 use Rattle.timing.specs.Timing.{readingFrom, firstRow}
@@ -26,7 +25,7 @@ use Rattle.tiles.proofs.Run.{pixels-none}
 use Rattle.tiles.proofs.Pixels.{pixels-outside, pixels-passed, pixels-others}
 use Rattle.controller.proofs.TickSum.{ap-pick}
 use Rattle.history.specs.History.{Call, reset, read, write, tick, inspect, choose, place, World, fresh, leaves, after}
-use Rattle.history.specs.Track.{Track, atReset, tickAccepted, runsIn, inArea, lands, byteIn, next, follow}
+use Rattle.history.specs.Track.{Track, atReset, tickAccepted, runsIn, inArea, lands, byteIn, next}
 use Rattle.history.specs.Since.{cycleOf}
 use Rattle.history.specs.Bits.{columnAt, rowAt, pixelAt, bitAt, sends, shadeSent, sentIn, lastSent}
 use Rattle.history.proofs.Picks.{by-test, not-both}
@@ -169,6 +168,19 @@ idle-runs t inspect h = refl
 idle-runs t (choose light level plain exposure) h = refl
 idle-runs t (place file) h = refl
 
+-- no cycle runs: no pixel is sent
+pub still-sends : (t : Track) (k : Call) (p b : ℕ) → runsIn t k ≡ 0 → sends t k p b ≡ false
+unfolding sends
+still-sends t k p b z =
+    split (t .ran) (cycleOf (t .taken) (pixelAt p b))
+    (λ l. rw (z, add-zero (t .ran), lt-leb (cycleOf (t .taken) (pixelAt p b)) (t .ran) l, and-false, and-false))
+    (λ l. rw (le-ltb (t .ran) (cycleOf (t .taken) (pixelAt p b)) l, and-false))
+
+-- nor outside the area
+pub out-sends : (t : Track) (k : Call) (p b : ℕ) → inArea p ≡ false → sends t k p b ≡ false
+unfolding sends
+out-sends t k p b out = rw out
+
 module _ (t : Track) (w : World) (m : Moment t w) (k : Call) where
   pub ram-size : length (w .ram) ≡ t .ramSize
   ram-size = ap (λ (u : Track). u .ramSize) (sym (m .told .same))
@@ -177,24 +189,11 @@ module _ (t : Track) (w : World) (m : Moment t w) (k : Call) where
     abbrev Put : Type 0
     Put = bitOf (getD (put-next t w m k) p 0) b ≡ pick (sends t k p b) (shadeSent t p b) (bitOf (getD (w .ram) p 0) b)
 
-    -- no cycle runs: no pixel is sent
-    still-sends : runsIn t k ≡ 0 → sends t k p b ≡ false
-    unfolding sends
-    still-sends z =
-        split (t .ran) (cycleOf (t .taken) (pixelAt p b))
-        (λ l. rw (z, add-zero (t .ran), lt-leb (cycleOf (t .taken) (pixelAt p b)) (t .ran) l, and-false, and-false))
-        (λ l. rw (le-ltb (t .ran) (cycleOf (t .taken) (pixelAt p b)) l, and-false))
-
     still : runsIn t k ≡ 0 → Put
-    still z = rw (still-sends z, z, add-zero (t .ran), pixels-none (w .store) (t .taken) (doneBy (t .taken) (t .ran)) (w .ram))
-
-    -- outside the area no pixel is sent
-    out-sends : inArea p ≡ false → sends t k p b ≡ false
-    unfolding sends
-    out-sends out = rw out
+    still z = rw (still-sends t k p b z, z, add-zero (t .ran), pixels-none (w .store) (t .taken) (doneBy (t .taken) (t .ran)) (w .ram))
 
     apart : inArea p ≡ false → Put
-    apart out = rw (out-sends out, pixels-outside (w .store) (t .taken) _ _ (w .ram) (done-most (t .taken) _) p (away p out))
+    apart out = rw (out-sends t k p b out, pixels-outside (w .store) (t .taken) _ _ (w .ram) (done-most (t .taken) _) p (away p out))
 
     -- the capture held sends its own pixel
     runs : inArea p ≡ true → b < 8 → t .held ≡ true → ramAllowed (t .ramSize) ≡ true → Put
