@@ -14,4 +14,5 @@ pub mod HalfPicture
 pub mod Picture
 pub mod Chosen
 pub mod Placed
+pub mod TwoTicks
 pub mod Worked
