@@ -16,3 +16,4 @@ pub mod Chosen
 pub mod Placed
 pub mod TwoTicks
 pub mod Worked
+pub mod WorkedBits

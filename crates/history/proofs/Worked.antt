@@ -139,7 +139,7 @@ premises = record {
 }
 
 -- a RAM all of one byte
-all-bytes : (v : ℕ) → v < 256 → Bytes (replicate 8192 v)
+pub all-bytes : (v : ℕ) → v < 256 → Bytes (replicate 8192 v)
 all-bytes v small i =
     split i 8192
     (λ l. rw (getD-replicate {A = ℕ} 8192 i v 0 l) small)
