@@ -1,6 +1,6 @@
 -- Each bit of the RAM is the last thing that was sent to it, or what it held at first. Assumes nothing.
 use mathlib.Core.Path.{_≡_, refl, sym, ap, _∙_}
-use mathlib.Core.Bool.{true, false, _&&_, and-false}
+use mathlib.Core.Bool.{Bool, true, false, _&&_, and-false}
 use mathlib.Core.List.{List, [], _∷_}
 use Prim.Native.Nat.{ℕ, _+_, _-_, _*_, _/_, _%_, _<_, _≤_, min}
 use native.Mathlib.Nat.{add-zero, div-div-eq-div-mul}
@@ -169,12 +169,12 @@ idle-runs t (choose light level plain exposure) h = refl
 idle-runs t (place file) h = refl
 
 -- no cycle runs: no pixel is sent
+none-between : (e c r : ℕ) → r ≡ 0 → (ltb e c && leb c (e + r)) ≡ false
+none-between e c r z = rw z (split e c (λ l. rw (add-zero e, lt-leb c e l, and-false)) (λ l. rw (le-ltb e c l)))
+
 pub still-sends : (t : Track) (k : Call) (p b : ℕ) → runsIn t k ≡ 0 → sends t k p b ≡ false
 unfolding sends
-still-sends t k p b z =
-    split (t .ran) (cycleOf (t .taken) (pixelAt p b))
-    (λ l. rw (z, add-zero (t .ran), lt-leb (cycleOf (t .taken) (pixelAt p b)) (t .ran) l, and-false, and-false))
-    (λ l. rw (le-ltb (t .ran) (cycleOf (t .taken) (pixelAt p b)) l, and-false))
+still-sends t k p b z = ap (λ (s : Bool). inArea p && s) (none-between (t .ran) (cycleOf (t .taken) (pixelAt p b)) (runsIn t k) z) ∙ and-false (inArea p)
 
 -- nor outside the area
 pub out-sends : (t : Track) (k : Call) (p b : ℕ) → inArea p ≡ false → sends t k p b ≡ false
