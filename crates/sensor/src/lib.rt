@@ -6,7 +6,7 @@ ghost use lib.IntN.{natAbs};
 ghost use lib.ListN.{length, getD};
 ghost use Rattle.sensor.specs.Taken.{exposureOf, alphas, Sane, Asked};
 ghost use Rattle.sensor.specs.Light.{Inside, adapted, exposed, turned, lightOf, litOf};
-ghost use Rattle.sensor.specs.Edge.{held, Small, acrossOf, uprightOf, aroundOf, enhanced, extracted, mode2, mode3, modeC, modeD, modeE, modeF, edgeOf, isPlain, leftOf, rightOf, aboveOf, belowOf, signedAt, threeOf, nineOf, step4};
+ghost use Rattle.sensor.specs.Edge.{held, Small, acrossOf, uprightOf, aroundOf, enhanced, extracted, mode2, mode3, modeC, modeD, modeE, modeF, edgeOf, isPlain, leftOf, rightOf, signedAt, threeOf, nineOf, step4};
 ghost use Rattle.sensor.specs.Row.{passes, step5};
 ghost use Rattle.sensor.specs.Shade.{valueAt, shadeOf, pixelAt};
 
@@ -95,7 +95,7 @@ pub fn light(set: Setting, v: u8) -> u8
     turn(set.inverted, expose(set.exposure, adapt(v)))
 }
 
-// The columns and rows beside one; beyond an edge of the sensor the edge is repeated.
+// The columns beside one; beyond the left and the right edge of the sensor the edge is repeated.
 fn left(x: usize) -> usize
     ensures { λ r. ⌜ r ≡ leftOf x ⌝ }
 {
@@ -115,28 +115,9 @@ fn right(x: usize) -> usize
     127
 }
 
-fn above(row: usize) -> usize
-    ensures { λ r. ⌜ r ≡ aboveOf row ⌝ }
-{
-    if row == 0 {
-        return 0;
-    }
-    row - 1
-}
-
-fn below(row: usize) -> usize
-    requires { ⌜ row < 128 ⌝ }
-    ensures { λ r. ⌜ r ≡ belowOf row ⌝ }
-{
-    if row < 127 {
-        return row + 1;
-    }
-    127
-}
-
-// The lit value at a column and a row, less 128.
+// The lit value at a column and a row, less 128: rows 7 to 121 are all that is asked for.
 pub fn signed_at(frame: &[u8], set: Setting, x: usize, row: usize) -> i32
-    requires { ⌜ Inside (length (now frame)) x row ⌝ }
+    requires { ⌜ Inside (length (now frame)) x row 7 121 ⌝ }
     requires { ⌜ Sane set ⌝ }
     ensures { λ r. ⌜ r ≡ signedAt (litOf (now (frame .entry)) set) x row ⌝ }
 {
@@ -145,7 +126,7 @@ pub fn signed_at(frame: &[u8], set: Setting, x: usize, row: usize) -> i32
 
 // The three signed values around a column of a row.
 fn three(frame: &[u8], set: Setting, x: usize, row: usize) -> [i32; 3]
-    requires { ⌜ Inside (length (now frame)) x row ⌝ }
+    requires { ⌜ Inside (length (now frame)) x row 7 121 ⌝ }
     requires { ⌜ Sane set ⌝ }
     ensures { λ r. ⌜ r ≡ threeOf (litOf (now (frame .entry)) set) x row ⌝ }
 {
@@ -156,16 +137,16 @@ fn three(frame: &[u8], set: Setting, x: usize, row: usize) -> [i32; 3]
     ]
 }
 
-// The nine signed values around a pixel, three rows of three.
+// The nine signed values around a pixel, three rows of three: of a pixel of the picture, or of the one below it.
 pub fn nine(frame: &[u8], set: Setting, x: usize, row: usize) -> [[i32; 3]; 3]
-    requires { ⌜ Inside (length (now frame)) x row ⌝ }
+    requires { ⌜ Inside (length (now frame)) x row 8 120 ⌝ }
     requires { ⌜ Sane set ⌝ }
     ensures { λ r. ⌜ r ≡ nineOf (litOf (now (frame .entry)) set) x row ⌝ }
 {
     [
-        three(frame, set, x, above(row)),
+        three(frame, set, x, row - 1),
         three(frame, set, x, row),
-        three(frame, set, x, below(row)),
+        three(frame, set, x, row + 1),
     ]
 }
 
@@ -298,7 +279,7 @@ fn plain(mode: u8) -> bool
 
 // The step 4 value of a pixel. The nine values are worked out only where a filter asks for them.
 pub fn step_4(frame: &[u8], set: Setting, x: usize, row: usize) -> i32
-    requires { ⌜ Inside (length (now frame)) x row ⌝ }
+    requires { ⌜ Inside (length (now frame)) x row 8 120 ⌝ }
     requires { ⌜ Sane set ⌝ }
     ensures { λ r. ⌜ r ≡ step4 (litOf (now (frame .entry)) set) set x row ⌝ }
 {
@@ -327,7 +308,7 @@ fn passing(mode: u8) -> bool
 
 // Step 5: what its kind makes of the value and, where it asks for it, of the one a row below.
 pub fn step_5(frame: &[u8], set: Setting, x: usize, row: usize) -> i32
-    requires { ⌜ Inside (length (now frame)) x row ⌝ }
+    requires { ⌜ Inside (length (now frame)) x row 8 119 ⌝ }
     requires { ⌜ Sane set ⌝ }
     ensures { λ r. ⌜ r ≡ step5 (litOf (now (frame .entry)) set) set x row ⌝ }
 {
@@ -342,12 +323,12 @@ pub fn step_5(frame: &[u8], set: Setting, x: usize, row: usize) -> i32
     if kind == 1 {
         return hold(p);
     }
-    hold(p - step_4(frame, set, x, below(row)))
+    hold(p - step_4(frame, set, x, row + 1))
 }
 
 // The pixel's value, 0 to 255.
 pub fn value(frame: &[u8], set: Setting, x: usize, row: usize) -> u8
-    requires { ⌜ Inside (length (now frame)) x row ⌝ }
+    requires { ⌜ Inside (length (now frame)) x row 8 119 ⌝ }
     requires { ⌜ Sane set ⌝ }
     ensures { λ r. ⌜ r ≡ valueAt (litOf (now (frame .entry)) set) set x row ⌝ }
 {
@@ -379,7 +360,7 @@ pub struct Pixel {
 
 // The pixel at a column and a row. `set` is what `regs` ask.
 pub fn pixel_at(frame: &[u8], set: Setting, regs: &[u8; 54], x: usize, row: usize) -> Pixel
-    requires { ⌜ Inside (length (now frame)) x row ⌝ }
+    requires { ⌜ Inside (length (now frame)) x row 8 119 ⌝ }
     requires { ⌜ Asked set (now regs) ⌝ }
     ensures { λ r. ⌜ r ≡ pixelAt (now (frame .entry)) (now (regs .entry)) x row ⌝ }
 {

@@ -3,3 +3,4 @@ pub mod Run
 pub mod Pixels
 pub mod Area
 pub mod Eight
+pub mod EdgeRows
