@@ -66,5 +66,5 @@ pub pixel-same : (frame regs : List ℕ) (x y : ℕ) → y < 112 → AsBefore fr
 unfolding valueAt shadeAt
 pixel-same frame regs x y h =
     let e : readingAt frame regs x (y + 8) ≡ readingBefore frame regs x (y + 8)
-        = ap (λ z. natAbs (z +ℤ pos 128)) (step5-same (litOf frame (settingOf regs)) (settingOf regs) x (y + 8) (omega arith)) in
+    = ap (λ z. natAbs (z +ℤ pos 128)) (step5-same (litOf frame (settingOf regs)) (settingOf regs) x (y + 8) (omega arith)) in
     record { value = e; shade = ap (shadeOf regs x (y + 8)) e }
