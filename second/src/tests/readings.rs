@@ -9,7 +9,7 @@ const FILE: usize = 14_351;
 const BEFORE: u8 = 0xA5;
 
 /// The pixels of the export, after seeing that it is a header, they, and no byte more.
-fn readings(state: &State, store: &[u8]) -> Vec<u8> {
+pub fn readings(state: &State, store: &[u8]) -> Vec<u8> {
     let mut buffer = vec![BEFORE; FILE + 9];
     export_readings(state, store, &mut buffer).unwrap();
     assert_eq!(buffer[..15], *b"P5\n128 112\n255\n");

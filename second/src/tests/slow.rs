@@ -1,11 +1,14 @@
 //! The capture cycle by cycle and pixel by pixel, straight from the paper, against the fast one.
 
 use super::random::Random;
+use super::readings::readings;
 use crate::{picture, tick, write, State, Timing, PLATE_OFFSET};
 
-/// Steps 1 to 3 for the sensor pixel at a place, held to the sensor.
+/// Steps 1 to 3 for a sensor pixel; a column beyond the sensor repeats the edge, and no picture
+/// pixel asks for a row outside 7 to 121.
 pub fn light(frame: &[u8], taken: &[u8; 54], x: i32, row: i32) -> i32 {
-    let (x, row) = (x.clamp(0, 127), row.clamp(0, 127));
+    assert!((7..=121).contains(&row), "row {row}");
+    let x = x.clamp(0, 127);
     let mut v = frame[(row * 128 + x) as usize] as i32;
     v = 128 + (v - 128) * 5 / 8;
     let exposure = taken[2] as i32 * 256 + taken[3] as i32;
@@ -51,8 +54,8 @@ pub fn step_5(mode: u8, start: u8, p: i32, s: i32) -> i32 {
     }
 }
 
+/// Step 4 for a sensor pixel.
 fn filtered(frame: &[u8], taken: &[u8; 54], x: i32, row: i32) -> i32 {
-    let row = row.clamp(0, 127);
     let at = |dx, dy| light(frame, taken, x + dx, row + dy);
     let ratio = (taken[4] >> 4) & 7;
     step_4(
@@ -92,7 +95,7 @@ pub fn put(ram: &mut [u8], x: usize, y: usize, shade: u8) {
     }
 }
 
-/// The value 0 to 255 of a sensor pixel, before the matrix.
+/// The value 0 to 255 of a sensor pixel of the picture, before the matrix.
 pub fn value(frame: &[u8], taken: &[u8; 54], x: usize, row: usize) -> i32 {
     let p = filtered(frame, taken, x as i32, row as i32);
     let s = filtered(frame, taken, x as i32, row as i32 + 1);
@@ -258,13 +261,32 @@ fn every_setting_of_the_filters() {
 #[test]
 fn only_rows_7_to_120_count() {
     let mut random = Random::new(4);
-    for mode in 0..16 {
-        let taken = registers(&mut random, mode);
+    for setting in 0..64_u8 {
+        let mut taken = registers(&mut random, setting % 16);
+        taken[0] = 2 * (setting / 16) + 1;
         let mut frame = random.bytes(16_384);
         let plate = picture(&frame, &taken).unwrap();
-        frame[..7 * 128].fill(random.byte());
-        frame[121 * 128..].fill(random.byte());
+        let before = readings(&started(&taken), &frame);
+        frame[..7 * 128].copy_from_slice(&random.bytes(7 * 128));
+        frame[121 * 128..].copy_from_slice(&random.bytes(7 * 128));
         assert_eq!(picture(&frame, &taken).unwrap(), plate);
+        assert!(readings(&started(&taken), &frame) == before);
+    }
+}
+
+#[test]
+fn rows_7_and_120_do_count() {
+    // Mode D at 500 per cent looks above and below, mode 0 with the difference below only.
+    for (registers, rows) in [([0xC0, 0xF0], [7, 120]), ([0, 0], [119, 120])] {
+        let mut taken = [0; 54];
+        (taken[0], taken[2]) = (5, 1);
+        (taken[1], taken[4]) = (registers[0], registers[1]);
+        let level = readings(&started(&taken), &[128; 16_384]);
+        for row in rows {
+            let mut frame = [128; 16_384];
+            frame[row * 128 + 50] = 200;
+            assert!(readings(&started(&taken), &frame) != level, "row {row}");
+        }
     }
 }
 
