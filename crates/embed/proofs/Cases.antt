@@ -49,10 +49,10 @@ use Rattle.salvaging.specs.declared.Salvaged.the-variants as salvages
 use Rattle.salvaging.specs.Salvage.{Salvaging, salvageRows, salvageDone, salvageMeans, salvagedAs}
 use Rattle.salvaging.proofs.Cleaned.{cleaned-long, lines-few}
 use Rattle.salvaging.proofs.Outcomes.{salvage-long}
-use Rattle.embed.specs.Layout.{encoded, isRecord, decoded}
+use Rattle.layout.specs.Layout.{encoded, isRecord, decoded}
 use Rattle.embed.specs.Packed.{packed}
 use Rattle.embed.specs.Exports.{called, asBytes, noRecord, unread, resetBytes, readBytes, writeBytes, tickBytes, inspected, inspectBytes, filled, asDrawn, pictureBytes, asLine, recordBytes, asWritten, exportBytes, shadesBytes, placeBytes, readingsBytes, asRead, importBytes, plainIn, exposureIn, chooseBytes, reported, asReported, salvageBytes}
-use Rattle.embed.proofs.Inverse.{encode-decode}
+use Rattle.layout.proofs.Inverse.{encode-decode}
 
 -- what comes to a number is that refusal: for an outcome, the state given and every byte lent
 pub kept : {O : Type 0} {rows : List Row} {number : O → ℕ} {refused : ℕ → O} {o done : O} → Refuses rows number refused o done

@@ -14,9 +14,9 @@ use Rattle.plates.specs.Grey.{Exported, exported}
 use Rattle.plates.proofs.Exports.{inExported, export-refuses, shades-refuses}
 use Rattle.plates.proofs.Placed.{place-refuses}
 use Rattle.plates.proofs.Values.{readings-refuse}
-use Rattle.embed.specs.Layout.{encoded, isRecord, decoded}
+use Rattle.layout.specs.Layout.{encoded, isRecord, decoded}
 use Rattle.embed.specs.Exports.{Called, asBytes, unread, writeBytes, tickBytes, plainIn, exposureIn, chooseBytes, exportBytes, shadesBytes, placeBytes, readingsBytes, reported, salvageBytes}
-use Rattle.embed.proofs.Inverse.{encode-decode}
+use Rattle.layout.proofs.Inverse.{encode-decode}
 use Rattle.embed.proofs.Cases.{kept, write-unread, write-done, tick-unread, tick-done, choose-unread, choose-done, place-unread, place-done, readings-unread, readings-done}
 use Rattle.embed.proofs.Only.{Says, write-says, tick-says, choose-says, place-says, export-says, shades-says, readings-says, salvage-says}
 use Rattle.salvaging.specs.Salvage.{unsalvaged, salvageRows, salvageDone, salvageMeans}

@@ -29,10 +29,10 @@ use Rattle.desk.specs.declared.choice.Exposure.{Exposure}
 use Rattle.desk.specs.Choice.{withRegisters, chooseRows, chooseMeans}
 use Rattle.desk.proofs.Choices.{choose-refuses}
 use Rattle.desk.proofs.Level.{chosen-length}
-use Rattle.embed.specs.Layout.{encoded, isRecord, fourAt, decoded}
+use Rattle.layout.specs.Layout.{encoded, isRecord, fourAt, decoded}
 use Rattle.embed.specs.Packed.{packed}
 use Rattle.embed.specs.Exports.{Called, asBytes, writeBytes, tickBytes, plainIn, exposureIn, chooseBytes, placeBytes}
-use Rattle.embed.proofs.Inverse.{Whole, record-parts, encoded-record, decode-encode, encode-decode}
+use Rattle.layout.proofs.Inverse.{Whole, record-parts, encoded-record, decode-encode, encode-decode}
 use Rattle.embed.proofs.Cases.{write-done, tick-done, choose-done, place-unread, place-done, place-state}
 
 -- ---- what bytes are read as

@@ -1,6 +1,4 @@
 -- Laws of the exported functions' definitions.
-pub mod Inverse
-pub mod Stores
 pub mod Cases
 pub mod Only
 pub mod Kept

@@ -1,4 +1,3 @@
--- The meaning of the exported functions: the state record as bytes, how an answer is packed, and what each call leaves.
-pub mod Layout
+-- The meaning of the exported functions: how an answer is packed, and what each call leaves.
 pub mod Packed
 pub mod Exports

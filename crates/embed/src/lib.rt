@@ -2,7 +2,6 @@
 // Each function answers the refusal's number * 2^32 + the value (answer). A refused call changes no byte it was lent.
 mod answer;
 mod clean;
-mod layout;
 mod record;
 
 use answer::done_answer;

@@ -4,7 +4,7 @@ use mathlib.Core.Bool.{true}
 use Prim.Native.Nat.{_+_, _*_}
 use borrow.Author.Needs.{needs}
 use Rattle.laws.proofs.Bools.{left-out, let-in}
-use Rattle.embed.specs.Layout.{isRecord}
+use Rattle.layout.specs.Layout.{isRecord}
 use Rattle.embed.specs.Packed.{packed}
 use Rattle.embed.proofs.Cases.{inspect-unread, inspect-found}
 use Rattle.embed.proofs.gulxinett_inspect.Statement.{statement}

@@ -3,7 +3,7 @@ use mathlib.Core.Path.{_≡_, sym, ap, _∙_}
 use mathlib.Core.Bool.{true}
 use borrow.Author.Needs.{needs}
 use Rattle.laws.proofs.Bools.{left-out, let-in}
-use Rattle.embed.specs.Layout.{isRecord}
+use Rattle.layout.specs.Layout.{isRecord}
 use Rattle.embed.specs.Exports.{filled}
 use Rattle.embed.proofs.Cases.{readings-unread, readings-written}
 use Rattle.embed.proofs.gulxinett_readings.Statement.{statement}

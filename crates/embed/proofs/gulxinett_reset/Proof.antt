@@ -3,7 +3,7 @@ use mathlib.Core.Path.{sym, ap, _∙_}
 use mathlib.Core.List.{[]}
 use borrow.Author.Needs.{needs}
 use borrow.Author.Tests.{eq-eqb, ne-eqb}
-use Rattle.embed.specs.Layout.{encoded}
+use Rattle.layout.specs.Layout.{encoded}
 use Rattle.embed.specs.Exports.{called}
 use Rattle.embed.proofs.Cases.{reset-short, reset-done}
 use Rattle.embed.proofs.gulxinett_reset.Statement.{statement}

@@ -4,9 +4,9 @@ use mathlib.Core.Bool.{true}
 use borrow.Author.Needs.{needs}
 use Rattle.tiles.specs.Tiles.{Bytes}
 use Rattle.laws.proofs.Bools.{left-out, let-in}
-use Rattle.embed.specs.Layout.{isRecord}
+use Rattle.layout.specs.Layout.{isRecord}
 use Rattle.embed.specs.Exports.{called}
-use Rattle.embed.proofs.Inverse.{record-parts}
+use Rattle.layout.proofs.Inverse.{record-parts}
 use Rattle.embed.proofs.Cases.{write-unread, write-wrote, write-refusal}
 use Rattle.embed.proofs.gulxinett_write.Statement.{statement}
 use Rattle.embed.proofs.gulxinett_write.Tie as tie

@@ -2,10 +2,10 @@
 use mathlib.Core.Path.{_≡_, refl}
 use borrow.Author.Needs.{needs}
 use lib.ListN.{length}
-use Rattle.embed.specs.Layout.{front, encoded}
-use Rattle.embed.proofs.Stores.{stored}
-use Rattle.embed.proofs.layout.encode.Statement.{statement}
-use Rattle.embed.proofs.layout.encode.Tie as tie
+use Rattle.layout.specs.Layout.{front, encoded}
+use Rattle.layout.proofs.Stores.{stored}
+use Rattle.layout.proofs.encode.Statement.{statement}
+use Rattle.layout.proofs.encode.Tie as tie
 
 registers-long : (c : tie.Start) → length (c .args .c .registers) ≡ 54
 registers-long c = search needs

@@ -11,7 +11,7 @@ use borrow.Author.Tests.{eqb-true, leb-true, eq-eqb, ne-eqb}
 use Rattle.controller.specs.declared.Controller.{Controller}
 use Rattle.tiles.specs.Tiles.{Bytes}
 use Rattle.laws.proofs.Bools.{both-left, both-right}
-use Rattle.embed.specs.Layout.{layoutNumber, flag, lowFirst, twoLowFirst, encoded, isRecord, fourAt, registersAt, decoded}
+use Rattle.layout.specs.Layout.{layoutNumber, flag, lowFirst, twoLowFirst, encoded, isRecord, fourAt, registersAt, decoded}
 
 -- ---- a flag
 

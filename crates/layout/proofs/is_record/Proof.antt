@@ -1,10 +1,10 @@
 -- `embed::layout::is_record` meets its contract: each answer rewrites the test that led there. Assumes nothing.
 use lib.ListN.{length, getD}
 use borrow.Author.Tests.{eq-eqb, ne-eqb, lt-leb, le-leb}
-use Rattle.embed.specs.Layout.{layoutNumber, isRecord}
+use Rattle.layout.specs.Layout.{layoutNumber, isRecord}
 use borrow.Author.Needs.{needs}
-use Rattle.embed.proofs.layout.is_record.Statement.{statement}
-use Rattle.embed.proofs.layout.is_record.Tie as tie
+use Rattle.layout.proofs.is_record.Statement.{statement}
+use Rattle.layout.proofs.is_record.Tie as tie
 
 returns : tie.Need-returns
 unfolding isRecord

@@ -4,12 +4,12 @@ use mathlib.Core.List.{_∷_, _++_}
 use lib.ListN.{drop, length-set}
 use lib.Seq.{sets-eq}
 use mir.Val.{boolByte}
-use Rattle.embed.specs.Layout.{layoutNumber, counts}
-use Rattle.embed.proofs.Stores.{as-flag}
+use Rattle.layout.specs.Layout.{layoutNumber, counts}
+use Rattle.layout.proofs.Stores.{as-flag}
 use native.Mathlib.Omega.{arith}
 use borrow.Author.Needs.{needs}
-use Rattle.embed.proofs.layout.put_front.Statement.{statement}
-use Rattle.embed.proofs.layout.put_front.Tie as tie
+use Rattle.layout.proofs.put_front.Statement.{statement}
+use Rattle.layout.proofs.put_front.Tie as tie
 
 returns : tie.Need-returns
 returns c =

@@ -7,8 +7,8 @@ use native.Mathlib.Omega.{arith}
 use borrow.Author.Needs.{needs}
 use lib.ListN.{length, getD, take, drop, set, length-set}
 use lib.Seq.{take-all, paste, paste-zero, paste-suc}
-use Rattle.embed.proofs.layout.put_registers.Statement.{statement}
-use Rattle.embed.proofs.layout.put_registers.Tie as tie
+use Rattle.layout.proofs.put_registers.Statement.{statement}
+use Rattle.layout.proofs.put_registers.Tie as tie
 
 abbrev Inv-loop : tie.InvT-loop
 Inv-loop state₀ at registers i₀ state i = (i ≤ 54) × (length state ≡ length state₀) × (state ≡ paste state₀ at registers i)

@@ -1,9 +1,9 @@
 -- `embed::layout::four_at` meets its contract: four bytes at their weights add up to less than 2^32. Assumes nothing.
 use native.Mathlib.Omega.{arith}
-use Rattle.embed.specs.Layout.{fourAt}
+use Rattle.layout.specs.Layout.{fourAt}
 use borrow.Author.Needs.{needs}
-use Rattle.embed.proofs.layout.four_at.Statement.{statement}
-use Rattle.embed.proofs.layout.four_at.Tie as tie
+use Rattle.layout.proofs.four_at.Statement.{statement}
+use Rattle.layout.proofs.four_at.Tie as tie
 
 returns : tie.Need-returns
 unfolding fourAt

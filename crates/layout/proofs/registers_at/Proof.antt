@@ -6,8 +6,8 @@ use native.Mathlib.Numerals.{add-one}
 use native.Mathlib.Omega.{arith}
 use lib.ListN.{length, getD, take, drop, length-set, length-drop}
 use lib.Seq.{take-suc, take-suc-set, take-all, getD-drop}
-use Rattle.embed.proofs.layout.registers_at.Statement.{statement}
-use Rattle.embed.proofs.layout.registers_at.Tie as tie
+use Rattle.layout.proofs.registers_at.Statement.{statement}
+use Rattle.layout.proofs.registers_at.Tie as tie
 
 abbrev Inv-loop : tie.InvT-loop
 Inv-loop state at out₀ i₀ out i = (i ≤ 54) × (length out ≡ 54) × (take i out ≡ take i (drop at state))

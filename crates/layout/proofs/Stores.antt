@@ -7,7 +7,7 @@ use native.Mathlib.Omega.{arith}
 use lib.ListN.{length, take, drop, length-append, length-drop, drop-of-length-le}
 use lib.Seq.{take-at}
 use mir.Val.{boolByte}
-use Rattle.embed.specs.Layout.{flag}
+use Rattle.layout.specs.Layout.{flag}
 
 -- a bool as the machine casts it
 pub as-flag : (t : Bool) → boolByte t ≡ flag t

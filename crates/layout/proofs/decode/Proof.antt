@@ -3,10 +3,10 @@ use mathlib.Core.Path.{_≡_}
 use native.Mathlib.Omega.{arith}
 use lib.Dec.{eqb}
 use lib.ListN.{length, getD}
-use Rattle.embed.specs.Layout.{decoded}
-use Rattle.embed.proofs.Inverse.{record-parts}
-use Rattle.embed.proofs.layout.decode.Statement.{statement}
-use Rattle.embed.proofs.layout.decode.Tie as tie
+use Rattle.layout.specs.Layout.{decoded}
+use Rattle.layout.proofs.Inverse.{record-parts}
+use Rattle.layout.proofs.decode.Statement.{statement}
+use Rattle.layout.proofs.decode.Tie as tie
 
 long : (c : tie.Start) → length (c .args .state .now) ≡ 121
 long c = record-parts _ (c .pre) .long

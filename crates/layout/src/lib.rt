@@ -6,7 +6,7 @@ ghost use mathlib.Core.Bool.{true};
 ghost use mathlib.Core.List.{_++_};
 ghost use Prim.Native.Nat.{_+_, _<_, _≤_};
 ghost use lib.ListN.{length, take, drop};
-ghost use Rattle.embed.specs.Layout.{front, encoded, isRecord, fourAt, twoAt, registersAt, decoded};
+ghost use Rattle.layout.specs.Layout.{front, encoded, isRecord, fourAt, twoAt, registersAt, decoded};
 
 // A byte as a wider number, with its bound.
 pub fn wide(x: u8) -> u32
@@ -69,7 +69,7 @@ fn registers_at(state: &[u8], at: usize) -> [u8; 54]
 }
 
 // The record of its bytes.
-pub(crate) fn decode(state: &[u8]) -> Controller
+pub fn decode(state: &[u8]) -> Controller
     requires { ⌜ isRecord (now state) ≡ true ⌝ }
     ensures { λ r. ⌜ r ≡ decoded (now (state .entry)) ⌝ }
 {
@@ -125,7 +125,7 @@ fn put_registers(state: &mut [u8], at: usize, registers: [u8; 54])
 }
 
 // Writes a record as its bytes.
-pub(crate) fn encode(c: Controller, state: &mut [u8])
+pub fn encode(c: Controller, state: &mut [u8])
     requires { ⌜ length (now state) ≡ 121 ⌝ }
     ensures { λ _. ⌜ now (state .exit) ≡ encoded c ⌝ }
 {

@@ -1,0 +1,3 @@
+-- Laws of the state record as bytes.
+pub mod Inverse
+pub mod Stores

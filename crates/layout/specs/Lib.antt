@@ -1,0 +1,2 @@
+-- The meaning of the state record as bytes.
+pub mod Layout
