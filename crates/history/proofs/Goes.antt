@@ -206,17 +206,18 @@ was-held t (choose light level plain exposure) s h = (choice-was t light level p
 was-held t (place file) s h = (unfold next in h, refl, unfold ends in refl)
 
 -- no cycle runs, and none is held until a start
+pub idle-runs : (t : Track) (k : Call) → t .held ≡ false → runsIn t k ≡ 0
+unfolding runsIn
+idle-runs t reset h = refl
+idle-runs t (read rom a) h = refl
+idle-runs t (write image a v) h = refl
+idle-runs t (tick n) h = simp (h, and-false)
+idle-runs t inspect h = refl
+idle-runs t (choose light level plain exposure) h = refl
+idle-runs t (place file) h = refl
+
 pub rests-next : (t : Track) (k : Call) → t .held ≡ false → starts t k ≡ false → (runsIn t k ≡ 0) × (next t k .held ≡ false)
-rests-next t k h s = (still k, by-test (next t k .held) (λ on. not-both (was-held t k s on .0) h) (λ off. off))
-  where
-    still : (k : Call) → runsIn t k ≡ 0
-    still reset = unfold runsIn in refl
-    still (read rom a) = unfold runsIn in refl
-    still (write image a v) = unfold runsIn in refl
-    still (tick n) = unfold runsIn in simp (h, and-false)
-    still inspect = unfold runsIn in refl
-    still (choose light level plain exposure) = unfold runsIn in refl
-    still (place file) = unfold runsIn in refl
+rests-next t k h s = (idle-runs t k h, by-test (next t k .held) (λ on. not-both (was-held t k s on .0) h) (λ off. off))
 
 -- ---- lists of calls
 

@@ -5,9 +5,9 @@ pub mod Exists
 pub mod Reachable
 pub mod Follows
 pub mod Counts
+pub mod Goes
 pub mod Touched
 pub mod Outside
-pub mod Goes
 pub mod Cycles
 pub mod OwnFrame
 pub mod HalfPicture

@@ -30,22 +30,23 @@ use Rattle.history.specs.Since.{cycleOf}
 use Rattle.history.specs.Bits.{columnAt, rowAt, pixelAt, bitAt, sends, shadeSent, sentIn, lastSent}
 use Rattle.history.proofs.Picks.{by-test, not-both}
 use Rattle.history.proofs.Follows.{Moment, at-reset, moment-next, put-next, byte-next}
+use Rattle.history.proofs.Goes.{idle-runs}
 
 -- ---- where a bit stands
 
 -- a place of the area
-pub record Inside (p : ℕ) : Type 0 where
+record Inside (p : ℕ) : Type 0 where
   pub low : 0x100 ≤ p
   pub high : p < 0xF00
 
-pub inside : (p : ℕ) → inArea p ≡ true → Inside p
+inside : (p : ℕ) → inArea p ≡ true → Inside p
 unfolding inArea
 inside p here =
     let h : p ≤ 0xEFF = leb-true p 0xEFF (both-right (leb 0x100 p) (leb p 0xEFF) here) in
     record { low = leb-true 0x100 p (both-left (leb 0x100 p) (leb p 0xEFF) here); high = omega arith }
 
 -- a place outside the area
-pub away : (p : ℕ) → inArea p ≡ false → 0x100 ≤ p → p < 0xF00 → ⊥
+away : (p : ℕ) → inArea p ≡ false → 0x100 ≤ p → p < 0xF00 → ⊥
 unfolding inArea
 away p out low high = not-both (rw (le-leb 0x100 p low) (le-leb p 0xEFF (omega arith))) out
 
@@ -68,13 +69,13 @@ module _ (p b : ℕ) (here : inArea p ≡ true) (small : b < 8) where
   abbrev j : ℕ
   j = pixelAt p b
 
-  pub column-small : x < 128
+  column-small : x < 128
   column-small = omega arith
 
-  pub pixel-column : j % 128 ≡ x
+  pixel-column : j % 128 ≡ x
   pixel-column = let h = column-small in omega arith
 
-  pub pixel-row : j / 128 ≡ y
+  pixel-row : j / 128 ≡ y
   pixel-row = let h = column-small in omega arith
 
   pub pixel-most : j < 14336
@@ -92,7 +93,6 @@ module _ (p b : ℕ) (here : inArea p ≡ true) (small : b < 8) where
   place-of : tiles.place x y + p % 2 ≡ p
   place-of =
       let low : 0x100 ≤ p = inside p here .low in
-      let i = p - 0x100 in
       let a : x / 8 ≡ (p - 0x100) / 16 % 16 = omega arith in
       let b : y / 8 ≡ (p - 0x100) / 256 = omega arith in
       let c : y % 8 ≡ (p - 0x100) / 2 % 8 = omega arith in
@@ -100,7 +100,7 @@ module _ (p b : ℕ) (here : inArea p ≡ true) (small : b < 8) where
       rw (a, b, c, d) (omega (arith, parts (p - 0x100)))
 
   -- the bit, of the shade that the RAM shows there
-  pub bit-shown : (ram : List ℕ) → bitOf (getD ram p 0) b ≡ bitAt p (shadeIn ram x y)
+  bit-shown : (ram : List ℕ) → bitOf (getD ram p 0) b ≡ bitAt p (shadeIn ram x y)
   unfolding bitAt shadeIn
   bit-shown ram =
       split 0 (p % 2)
@@ -132,7 +132,7 @@ module _ (p b : ℕ) (here : inArea p ≡ true) (small : b < 8) where
 
 -- ---- one call
 
--- a range of pixels is done between two moments exactly when their cycles fall between them
+-- pixel j is done exactly when its cycle has passed
 pub passed : (regs : List ℕ) (j e : ℕ) → j < 14336 → ltb j (doneBy regs e) ≡ leb (cycleOf regs j) e
 unfolding doneBy cycleOf
 passed regs j e most =
@@ -141,13 +141,14 @@ passed regs j e most =
     (λ early. le-ltb j (min (e / 2 - pictureFrom regs) 14336) (omega arith) ∙ sym (lt-leb (2 * (readingFrom regs + (128 * (8 - firstRow regs) + j) + 1)) e early))
     (λ late. lt-ltb j (min (e / 2 - pictureFrom regs) 14336) (omega arith) ∙ sym (le-leb (2 * (readingFrom regs + (128 * (8 - firstRow regs) + j) + 1)) e late))
 
+-- and else it waits for it
 waiting : (regs : List ℕ) (j e : ℕ) → j < 14336 → leb (doneBy regs e) j ≡ ltb e (cycleOf regs j)
 waiting regs j e most =
     split j (doneBy regs e)
     (λ l. lt-leb (doneBy regs e) j l ∙ sym (le-ltb e (cycleOf regs j) (leb-true (cycleOf regs j) e (sym (passed regs j e most) ∙ lt-ltb j (doneBy regs e) l))))
     (λ l. le-leb (doneBy regs e) j l ∙ sym (lt-ltb e (cycleOf regs j) (leb-false (cycleOf regs j) e (sym (passed regs j e most) ∙ le-ltb j (doneBy regs e) l))))
 
--- a RAM that is not allowed runs no cycle, nor does a capture that is not held
+-- a RAM that is not allowed runs no cycle
 pub short-runs : (t : Track) (k : Call) → ramAllowed (t .ramSize) ≡ false → runsIn t k ≡ 0
 unfolding runsIn tickAccepted
 short-runs t reset h = refl
@@ -157,16 +158,6 @@ short-runs t (tick n) h = rw h
 short-runs t inspect h = refl
 short-runs t (choose light level plain exposure) h = refl
 short-runs t (place file) h = refl
-
-idle-runs : (t : Track) (k : Call) → t .held ≡ false → runsIn t k ≡ 0
-unfolding runsIn
-idle-runs t reset h = refl
-idle-runs t (read rom a) h = refl
-idle-runs t (write image a v) h = refl
-idle-runs t (tick n) h = simp (h, and-false)
-idle-runs t inspect h = refl
-idle-runs t (choose light level plain exposure) h = refl
-idle-runs t (place file) h = refl
 
 -- no cycle runs: no pixel is sent
 none-between : (e c r : ℕ) → r ≡ 0 → (ltb e c && leb c (e + r)) ≡ false
@@ -224,7 +215,7 @@ module _ (t : Track) (w : World) (m : Moment t w) (k : Call) where
 
 -- ---- any calls
 
-pub bit-after : (p b : ℕ) → (inArea p ≡ true → b < 8) → (cs : List Call) (t : Track) (w : World) → Moment t w
+bit-after : (p b : ℕ) → (inArea p ≡ true → b < 8) → (cs : List Call) (t : Track) (w : World) → Moment t w
     → bitOf (getD (after w cs .ram) p 0) b ≡ lastSent p b t cs (bitOf (getD (w .ram) p 0) b)
 unfolding after lastSent
 bit-after p b small [] t w m = refl
