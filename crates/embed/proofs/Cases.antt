@@ -39,7 +39,7 @@ use Rattle.plates.specs.declared.grey.Output.{Output}
 use Rattle.plates.specs.Grey.{Exported, exported, outputNumber, outputValue, exportMeans}
 use Rattle.plates.specs.Shades.{shadesMeans}
 use Rattle.plates.specs.Placing.{placeRows, placeMeans}
-use Rattle.plates.specs.Readings.{readingsMean}
+use Rattle.readings.specs.Readings.{readingsMean}
 use Rattle.photos.specs.Photo.{imported, importMeans}
 use Rattle.desk.specs.declared.choice.Exposure.{Exposure}
 use Rattle.desk.specs.Choice.{chooseMeans}

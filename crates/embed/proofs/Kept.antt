@@ -13,7 +13,7 @@ use Rattle.desk.proofs.Choices.{choose-refuses}
 use Rattle.plates.specs.Grey.{Exported, exported}
 use Rattle.plates.proofs.Exports.{inExported, export-refuses, shades-refuses}
 use Rattle.plates.proofs.Placed.{place-refuses}
-use Rattle.plates.proofs.Values.{readings-refuse}
+use Rattle.readings.proofs.Values.{readings-refuse}
 use Rattle.layout.specs.Layout.{encoded, isRecord, decoded}
 use Rattle.embed.specs.Exports.{Called, asBytes, unread, writeBytes, tickBytes, plainIn, exposureIn, chooseBytes, exportBytes, shadesBytes, placeBytes, readingsBytes, reported, salvageBytes}
 use Rattle.layout.proofs.Inverse.{encode-decode}

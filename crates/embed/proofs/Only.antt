@@ -26,9 +26,9 @@ use Rattle.plates.specs.Grey.{Exported, exported, exportMeans}
 use Rattle.plates.specs.Shades.{shadesMeans}
 use Rattle.plates.specs.Placing.{placeMeans}
 use Rattle.plates.proofs.Exports.{inExported, export-refuses, shades-refuses}
-use Rattle.plates.specs.Readings.{readingsMean}
+use Rattle.readings.specs.Readings.{readingsMean}
 use Rattle.plates.proofs.Placed.{place-refuses}
-use Rattle.plates.proofs.Values.{readings-refuse}
+use Rattle.readings.proofs.Values.{readings-refuse}
 use Rattle.photos.specs.Photo.{importMeans}
 use Rattle.desk.specs.Choice.{chooseMeans}
 use Rattle.desk.proofs.Choices.{choose-refuses}

@@ -16,7 +16,7 @@ use Rattle.lines.specs.Record.{Recording, recordMeans}
 use Rattle.plates.specs.Grey.{Exported, exportMeans}
 use Rattle.plates.specs.Shades.{shadesMeans}
 use Rattle.plates.specs.Placing.{placeMeans}
-use Rattle.plates.specs.Readings.{readingsMean}
+use Rattle.readings.specs.Readings.{readingsMean}
 use Rattle.photos.specs.Photo.{Imported, importMeans}
 use Rattle.desk.specs.declared.choice.Exposure.{Exposure}
 use Rattle.desk.specs.declared.choice.Exposure.the-variants.{Named, Unnamed}

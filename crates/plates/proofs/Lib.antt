@@ -6,4 +6,3 @@ pub mod Each
 pub mod Placed
 pub mod Left
 pub mod RoundTrip
-pub mod Values

@@ -3,4 +3,3 @@ pub mod Grey
 pub mod Placing
 pub mod Shades
 pub mod Eight
-pub mod Readings

@@ -53,7 +53,7 @@ fn put_pixels(ram: &[u8], pixels: &mut [u8])
 }
 
 // The header's bytes.
-pub(crate) fn put_header(out: &mut [u8])
+pub fn put_header(out: &mut [u8])
     requires { ⌜ length (now out) ≡ 15 ⌝ }
     ensures { λ _. ⌜ now (out .exit) ≡ header ⌝ }
 {

@@ -18,10 +18,10 @@ use Rattle.timing.specs.Lent.{frameAllowed}
 use Rattle.controller.specs.State.{cantExist}
 use Rattle.controller.specs.Table.{lowest}
 use Rattle.controller.proofs.Refusals.{Refuses, refuses, risingFrom, first-fails}
 use Rattle.plates.specs.Grey.{header, greyOf, greyAt, plateOf, exported}
-use Rattle.plates.specs.Readings.{reading, readingsOf, readingRows, readingsMean}
+use Rattle.readings.specs.Readings.{reading, readingsOf, readingRows, readingsMean}
 use Rattle.plates.proofs.Exports.{inExported}
 use Rattle.plates.proofs.Same.{afresh-alike}
 
 module _ (c : Controller) (store out : List ℕ) where
   -- readings are refused by the lowest number of their rows, and only then

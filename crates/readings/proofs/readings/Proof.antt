@@ -2,11 +2,11 @@
 use mathlib.Core.Path.{_≡_, ap, _∙_}
 use Rattle.timing.proofs.Lent.{frame-lent}
 use Rattle.controller.proofs.Refusals.{by-why, by-fits, fits-none}
 use Rattle.plates.specs.Grey.{exported}
-use Rattle.plates.proofs.Values.{readings-refuse, readings-fit}
+use Rattle.readings.proofs.Values.{readings-refuse, readings-fit}
 use borrow.Author.Needs.{needs}
-use Rattle.plates.proofs.readings.readings.Statement.{statement}
-use Rattle.plates.proofs.readings.readings.Tie as tie
+use Rattle.readings.proofs.readings.Statement.{statement}
+use Rattle.readings.proofs.readings.Tie as tie
 
 returns : tie.Need-returns
 returns c = by-why (readings-refuse _ _ _) _ (c .before .before .before .judge-readings .ensures) _ (c .before .verdict .given .1)

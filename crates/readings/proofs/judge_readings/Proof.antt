@@ -1,9 +1,9 @@
 -- `plates::readings::judge_readings` meets its contract: row by row. Assumes nothing.
 use Rattle.controller.specs.Table.{lowest}
-use Rattle.plates.specs.Readings.{readingRows}
+use Rattle.readings.specs.Readings.{readingRows}
 use borrow.Author.Needs.{needs}
-use Rattle.plates.proofs.readings.judge_readings.Statement.{statement}
-use Rattle.plates.proofs.readings.judge_readings.Tie as tie
+use Rattle.readings.proofs.judge_readings.Statement.{statement}
+use Rattle.readings.proofs.judge_readings.Tie as tie
 
 returns : tie.Need-returns
 unfolding readingRows lowest

@@ -1,13 +1,13 @@
 // The reading before the dots: the value of each pixel of a held capture, as a Netpbm file of the kind that a plate has.
-use super::grey::FILE;
-use super::grey::Output;
-use super::grey::put_header;
 use controller::Controller;
 use controller::Refusal;
 use controller::Verdict;
 use controller::judge::no_frame;
 use controller::judge::no_room;
 use controller::judge::refused_if;
+use plates::grey::FILE;
+use plates::grey::Output;
+use plates::grey::put_header;
 use sensor::Setting;
 ghost use mathlib.Core.Path.{_≡_};
 ghost use mathlib.Core.List.{_++_};
@@ -17,8 +17,8 @@ ghost use Rattle.laws.specs.Lists.{listed};
 ghost use Rattle.sensor.specs.Taken.{Asked};
 ghost use Rattle.controller.specs.Outcome.{verdictNumber};
 ghost use Rattle.controller.specs.Table.{lowest};
 ghost use Rattle.plates.specs.Grey.{outputNumber, outputValue, exported};
-ghost use Rattle.plates.specs.Readings.{reading, readingsOf, readingRows, readingsMean};
+ghost use Rattle.readings.specs.Readings.{reading, readingsOf, readingRows, readingsMean};
 
 // All values, row by row: picture row y is sensor row y + 8.
 fn put_values(store: &[u8], set: Setting, regs: &[u8; 54], values: &mut [u8])

@@ -3,11 +3,11 @@ use mathlib.Core.Path.{_≡_, _∙_}
 use mathlib.Core.List.{_++_}
 use lib.ListN.{drop}
 use lib.Seq.{drop-drop}
 use Rattle.plates.specs.Grey.{header}
-use Rattle.plates.specs.Readings.{readingsOf}
+use Rattle.readings.specs.Readings.{readingsOf}
 use borrow.Author.Needs.{needs}
-use Rattle.plates.proofs.readings.put_readings.Statement.{statement}
-use Rattle.plates.proofs.readings.put_readings.Tie as tie
+use Rattle.readings.proofs.put_readings.Statement.{statement}
+use Rattle.readings.proofs.put_readings.Tie as tie
 
 returns : tie.Need-returns
 unfolding header readingsOf

@@ -4,10 +4,10 @@ use Prim.Native.Nat.{ℕ, _-_, _≤_}
 use native.Mathlib.Omega.{arith}
 use Rattle.laws.proofs.Filled.{Filled, filled-none, filled-more, filled-end}
 use Rattle.sensor.specs.declared.Pixel.{Pixel}
-use Rattle.plates.specs.Readings.{reading}
+use Rattle.readings.specs.Readings.{reading}
 use borrow.Author.Needs.{needs}
-use Rattle.plates.proofs.readings.put_values.Statement.{statement}
-use Rattle.plates.proofs.readings.put_values.Tie as tie
+use Rattle.readings.proofs.put_values.Statement.{statement}
+use Rattle.readings.proofs.put_values.Tie as tie
 
 abbrev Inv-loop : tie.InvT-loop
 Inv-loop store set regs values₀ k₀ values k = (k ≤ 14336) × Filled (reading store regs) 14336 k values

@@ -1,0 +1,2 @@
+-- The readings of a held capture.
+pub mod Readings
