@@ -1,4 +1,4 @@
--- A refused call leaves the state bytes, the RAM, the frame store and a lent buffer as they were. Assumes nothing.
+-- A refused call leaves the state bytes, the RAM, the frame store and the lent buffers as they were. Assumes nothing.
 use mathlib.Core.Path.{_≡_, refl, sym, _∙_, ap}
 use mathlib.Core.Bool.{true, false}
 use mathlib.Core.List.{List, []}

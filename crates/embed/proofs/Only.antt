@@ -152,7 +152,7 @@ pub import-says : (file image : List ℕ) → Says (importBytes file image .answ
 unfolding importBytes
 import-says file image = packed-says _ _ (omega arith)
 
--- a salvage's answer: at most 32,768 lines of at most 32,769 bytes are a value below 2^32
+-- a salvage's answer: at most 32,768 lines and 32,769 bytes are a value below 2^32
 pub salvage-says : (script text report : List ℕ) → Says (salvageBytes script text report .answer) (salvageMeans script text report .number) (countsOf (salvageMeans script text report))
 unfolding salvageBytes
 salvage-says script text report =
