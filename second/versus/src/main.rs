@@ -15,6 +15,7 @@ mod lines;
 mod photos;
 mod plates;
 mod random;
+mod rows;
 mod salvages;
 mod script;
 mod shrink;
@@ -124,6 +125,13 @@ fn compare(calls: u64, seed: u64, answers: Option<Answers>) -> Option<Option<Ans
     let before = tally.compared;
     sweep::readings(&mut tally, &mut random);
     println!("readings: {} calls compared", tally.compared - before);
+    let before = tally.compared;
+    let [first, last] = rows::compare(&mut tally, &mut random);
+    println!(
+        "rows outside 7 to 120: {} calls compared; row 7 changes the picture in {first} of 64 settings, \
+         row 120 in {last}",
+        tally.compared - before
+    );
     let before = tally.compared;
     sweep::choices(&mut tally);
     println!("choices: {} calls compared", tally.compared - before);

@@ -20,7 +20,8 @@ pub struct Tally {
 
 impl Tally {
     /// Makes one call on both sides, which must answer alike, and with the refusal if one is due.
-    pub fn compare(&mut self, side: &Side, call: &Call, due: Option<u64>) {
+    /// Gives the archive's side and the second program's as the call leaves them.
+    pub fn compare(&mut self, side: &Side, call: &Call, due: Option<u64>) -> [Side; 2] {
         self.compared += 1;
         let mut archive = side.clone();
         let mut second = side.clone();
@@ -35,7 +36,7 @@ impl Tally {
         let parting = parting(&archive, &second);
         let kept = answers[1] >> 32 == 0 || lent(&second) == lent(side);
         if answers[0] == answers[1] && due_now && kept && parting.is_none() {
-            return;
+            return [archive, second];
         }
         let lengths = [&side.rom, &side.ram, &side.store, &side.image].map(|lent| lent.len());
         self.differences.push(format!(
@@ -51,6 +52,7 @@ impl Tally {
             answers[1],
             parting.unwrap_or_default(),
         ));
+        [archive, second]
     }
 }
 
@@ -530,7 +532,7 @@ fn draw(tally: &mut Tally, side: &Side, registers: [u8; 54]) {
 }
 
 /// Such registers under one of 1,024 settings: mode, inversion, ratio and 1-D filter.
-fn setting_of(setting: u32, random: &mut Random) -> [u8; 54] {
+pub fn setting_of(setting: u32, random: &mut Random) -> [u8; 54] {
     let mut registers = pleasant(random);
     registers[0] = (setting >> 8 << 1 | 1) as u8;
     registers[1] = registers[1] & 0x1F | (setting << 4 & 0xE0) as u8;
