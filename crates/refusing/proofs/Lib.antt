@@ -1,0 +1,2 @@
+-- Each exported function's refusals, one statement each.
+pub mod Refused

@@ -1,0 +1,2 @@
+-- The table of each exported function's refusals.
+pub mod Tables

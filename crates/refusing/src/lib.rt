@@ -1,0 +1,1 @@
+// The refusals of each exported function: theorems only, no code.
