@@ -50,11 +50,11 @@ use Rattle.refusing.specs.Tables.{numberIn, inCalled, inFilled, inReport
 -- ---- a call's refusals, carried to what its caller is handed
 
 pub carried : {O B : Type 0} {rows : List Row} {number : O → ℕ} {refused : ℕ → O} {o done : O} → Refuses rows number refused o done
-    → (handed : O → B) (answered : B → ℕ) (left : ℕ → B) → ((n : ℕ) → handed (refused n) ≡ left n) → answered (handed o) ≡ number o
+    → (handed : O → B) (answered : B → ℕ) (left : ℕ → B) → ((k : ℕ) → handed (refused (suc k)) ≡ left (suc k)) → answered (handed o) ≡ number o
     → Refuses rows answered left (handed o) (handed done)
 carried r handed answered left same says = record {
   numbered = says ∙ r .numbered;
-  kept = λ k h. ap handed (r .kept k h) ∙ same (suc k);
+  kept = λ k h. ap handed (r .kept k h) ∙ same k;
   does = λ h. ap handed (r .does h);
   exact = λ k. (λ e. r .exact k .0 (sym says ∙ e), λ g. says ∙ r .exact k .1 g);
 }
@@ -84,7 +84,7 @@ module _ (s : List ℕ) where
       → Refuses (badState s ∷ rest) answered left b (handed done)
   over-record {O} {B} {rest} {number} {refused} {o} {done} r handed answered left {b} un read same one says up =
       either (isRecord s)
-      (λ h. rw (h, read h) (carried r handed answered left (same h) (ap answered (sym (read h)) ∙ says h)))
+      (λ h. rw (h, read h) (carried r handed answered left (λ k. same h (suc k)) (ap answered (sym (read h)) ∙ says h)))
       (λ h. rw h (no-record rest answered left b (handed done) (un h) (ap answered (un h) ∙ one) up))
 
   -- for those that hand back state bytes, RAM and frame store
@@ -150,25 +150,25 @@ pub picture-refused : (frame registers picture : List ℕ)
     → Refuses (pictureRows frame) inFilled (leavesBuffer picture) (pictureBytes frame registers picture) (filled (packed 0 0) (pictureOf frame registers))
 unfolding pictureBytes
 picture-refused frame registers picture =
-    carried (picture-refuses frame registers picture) asDrawn inFilled (leavesBuffer picture) (λ n. refl) (packed-number _)
+    carried (picture-refuses frame registers picture) asDrawn inFilled (leavesBuffer picture) (λ k. refl) (packed-number _)
 
 pub export-refused : (ram out : List ℕ) → Refuses (exportRows ram out) inFilled (leavesBuffer out) (exportBytes ram out) (filled (packed 0 14351) (plateOf ram ++ drop 14351 out))
 unfolding exportBytes
-export-refused ram out = carried (export-refuses ram out) asWritten inFilled (leavesBuffer out) (λ n. refl) (export-says ram out .number)
+export-refused ram out = carried (export-refuses ram out) asWritten inFilled (leavesBuffer out) (λ k. refl) (export-says ram out .number)
 
 pub shades-refused : (ram out : List ℕ) → Refuses (shadesRows ram out) inFilled (leavesBuffer out) (shadesBytes ram out) (filled (packed 0 14336) (shadesOf ram ++ drop 14336 out))
 unfolding shadesBytes
-shades-refused ram out = carried (shades-refuses ram out) asWritten inFilled (leavesBuffer out) (λ n. refl) (shades-says ram out .number)
+shades-refused ram out = carried (shades-refuses ram out) asWritten inFilled (leavesBuffer out) (λ k. refl) (shades-says ram out .number)
 
 pub import-refused : (file image : List ℕ) → Refuses (importRows file image) inFilled (leavesBuffer image) (importBytes file image) (filled (packed 0 0) (imageOf file))
 unfolding importBytes
-import-refused file image = carried (import-refuses file image) asRead inFilled (leavesBuffer image) (λ n. refl) (packed-number _)
+import-refused file image = carried (import-refuses file image) asRead inFilled (leavesBuffer image) (λ k. refl) (packed-number _)
 
 -- each of the five that record, by its frame
 pub record-refused : (f : Frame) (bytes out : List ℕ)
     → Refuses (recordRows (cantSay f bytes) (lineOf f bytes) out) inFilled (leavesBuffer out) (recordBytes f bytes out) (asLine (line-filled (lineOf f bytes) out))
 unfolding recordBytes
-record-refused f bytes out = carried (record-refuses f bytes out) asLine inFilled (leavesBuffer out) (λ n. refl) (record-says f bytes out .number)
+record-refused f bytes out = carried (record-refuses f bytes out) asLine inFilled (leavesBuffer out) (λ k. refl) (record-says f bytes out .number)
 
 -- ---- a salvage: 12 goes before 7, so by their numbers 7 is given where the script is not over the size
 
@@ -192,4 +192,4 @@ module _ (script text report : List ℕ) where
   -- and of the exported function
   pub salvage-refused : Refuses (salvageTable script text report) inReported (leavesBoth text report) (salvageBytes script text report) (asReported (salvageDone script text report))
   unfolding salvageBytes
-  salvage-refused = carried salvage-refuses asReported inReported (leavesBoth text report) (λ n. refl) (salvage-says script text report .number)
+  salvage-refused = carried salvage-refuses asReported inReported (leavesBoth text report) (λ k. refl) (salvage-says script text report .number)

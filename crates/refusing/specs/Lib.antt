@@ -1,2 +1,3 @@
--- The table of each exported function's refusals.
+-- The table of each exported function's refusals, and of a script's line.
 pub mod Tables
+pub mod Line
