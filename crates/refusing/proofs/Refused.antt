@@ -1,6 +1,7 @@
 -- Each exported function's refusals: a number is answered exactly when its row of the table holds and no lower one does, and then nothing is
 -- changed. Assumes nothing.
 use mathlib.Core.Path.{_≡_, refl, sym, ap, _∙_}
+use mathlib.Core.Logic.{_↔_}
 use mathlib.Core.Bool.{Bool, true, false, not, _&&_}
 use mathlib.Core.List.{List, [], _∷_, _++_}
 use Prim.Native.Nat.{ℕ, suc, _<_}
@@ -21,7 +22,7 @@ use Rattle.controller.specs.Capture.{ticks, from}
 use Rattle.controller.specs.Calls.{refusal, readRows, byteOf, writeRows, wrote, tickRows, ticked}
 use Rattle.controller.specs.Inspect.{named, inspectRows}
 use Rattle.controller.specs.Picture.{pictureRows}
-use Rattle.controller.proofs.Refusals.{Refuses, refuses, inOutcome, risingFrom, given, gives, read-refuses, write-refuses, tick-refuses, inspect-refuses, picture-refuses}
+use Rattle.controller.proofs.Refusals.{Refuses, Given, refuses, inOutcome, risingFrom, given, gives, read-refuses, write-refuses, tick-refuses, inspect-refuses, picture-refuses}
 use Rattle.lines.specs.declared.line.Frame.{Frame}
 use Rattle.lines.specs.Record.{lineOf, cantSay, recordRows, filled as line-filled}
 use Rattle.lines.proofs.Recorded.{record-refuses}
@@ -46,6 +47,12 @@ use Rattle.embed.specs.Exports.{Called, called, asBytes, unread, resetBytes, re
 use Rattle.embed.proofs.Cases.{read-unread, read-done, write-unread, write-done, tick-unread, tick-done, choose-unread, choose-done, inspect-unread, inspect-done, place-unread, place-done, readings-unread, readings-done}
 use Rattle.embed.proofs.Only.{Says, packed-says, read-says, write-says, tick-says, choose-says, inspect-says, record-says, export-says, shades-says, place-says, readings-says, salvage-says}
 use Rattle.refusing.specs.Tables.{numberIn, inCalled, inFilled, inReported, leaves, leavesBuffer, leavesBoth, badState, resetTable, readTable, writeTable, tickTable, inspectTable, chooseTable, placeTable, readingsTable, over, salvageTable}
+
+-- a call's refusals in the table's own words: a number is answered exactly when its row holds and no lower one does, and then the outcome is
+-- that refusal
+pub exactly : {O : Type 0} {rows : List Row} {number : O → ℕ} {refused : ℕ → O} {o done : O} → Refuses rows number refused o done
+    → (k : ℕ) → ((number o ≡ suc k) ↔ Given rows (suc k)) × (Given rows (suc k) → o ≡ refused (suc k))
+exactly r k = (r .exact k, λ g. r .kept k (sym (r .numbered) ∙ r .exact k .1 g))
 
 -- ---- a call's refusals, carried to what its caller is handed
 
