@@ -27,7 +27,7 @@ digit-hex d h =
     (λ l. simp (lt-ltb d 10 l, le-leb 0x30 (0x30 + d) (omega arith), le-leb (0x30 + d) 0x39 (omega arith)))
     (λ l. let b = 0x41 + (d - 10) in simp (le-ltb d 10 l, le-leb 0x30 b (omega arith), lt-leb b 0x39 (omega arith), le-leb 0x41 b (omega arith), le-leb b 0x46 (omega arith)))
 
-digit-worth : (d : ℕ) → d < 16 → worth (digitByte d) ≡ d
+pub digit-worth : (d : ℕ) → d < 16 → worth (digitByte d) ≡ d
 unfolding digitByte
 digit-worth d h =
     split d 10

@@ -33,7 +33,7 @@ pub second-half : (a b : Bool) → (a && b) ≡ true → b ≡ true
 second-half true b h = h
 second-half false b h = absurd (clash h)
 
-and-true : (a : Bool) → (a && true) ≡ a
+pub and-true : (a : Bool) → (a && true) ≡ a
 and-true true = refl
 and-true false = refl
 

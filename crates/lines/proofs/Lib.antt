@@ -4,4 +4,5 @@ pub mod Frames
 pub mod Placed
 pub mod Written
 pub mod Accepted
+pub mod Malformed
 pub mod Recorded

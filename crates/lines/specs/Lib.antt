@@ -1,4 +1,5 @@
 -- The meaning of one line of the bus script.
 pub mod Line
+pub mod Kinds
 pub mod Hex
 pub mod Record
