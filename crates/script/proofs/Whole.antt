@@ -118,7 +118,7 @@ holds-more m p b h =
 
 -- ---- reading all of a text, and its end
 
-closing : List ℕ → Reading → Step
+pub closing : List ℕ → Reading → Step
 closing rom m = after (m .text) (lastLine rom (m .world) (m .line) (m .held))
 
 byte-line : (rom : List ℕ) (m : Reading) (b : ℕ) → eqb b 0x0A ≡ true → byteRead rom m b ≡ lineEnded rom m
@@ -224,7 +224,8 @@ reopened m h =
     ∙ ap (λ t. reading (m .world) (m .line) (m .held) t (m .used + 0)) (append-nil (m .text))
     ∙ ap (λ u. reading (m .world) (m .line) (m .held) (m .text) u) (add-zero (m .used))
 
-pieces-read : (rom : List ℕ) (w : World) (r : Reader) (pieces : List (List ℕ)) → inPieces rom w r pieces ≡ closing rom (readAll rom (opened w r) (joined pieces))
+-- what is read in pieces is read at one go
+pub pieces-read : (rom : List ℕ) (w : World) (r : Reader) (pieces : List (List ℕ)) → inPieces rom w r pieces ≡ closing rom (readAll rom (opened w r) (joined pieces))
 unfolding inPieces finishMeans closing readAll opened
 pieces-read rom w r [] = refl
 pieces-read rom w r (p ∷ pieces) =

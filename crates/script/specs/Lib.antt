@@ -5,3 +5,4 @@ pub mod Said
 pub mod Text
 pub mod Recording
 pub mod Pieces
+pub mod Loop
