@@ -1,11 +1,12 @@
 // The bus script program: plays standard input to its end, one answer for each line. What can be said with a contract is in `script`.
 use controller::Controller;
+use libc::STDERR_FILENO;
 use libc::STDIN_FILENO;
 use libc::STDOUT_FILENO;
 use script::text::Reader;
 use script::text::feed;
 use script::text::finish;
-ghost use Prim.Native.Nat.{_≤_};
+ghost use Prim.Native.Nat.{_<_, _≤_};
 ghost use lib.ListN.{length};
 ghost use Rattle.io.specs.Counts.{Counts};
 
@@ -15,8 +16,8 @@ struct Session {
     state: Controller,
     // Whether more of the input is to be played.
     on: bool,
-    // Whether every answer so far was written.
-    heard: bool,
+    // Whether the input has ended: only then is a last line without LF known to be whole.
+    ended: bool,
     // How much of the piece was played last.
     used: usize,
 }
@@ -42,7 +43,8 @@ fn play_some(
     piece: &[u8],
     out: &mut [u8],
 ) -> Session
-    ensures { λ r. ⌜ r .used ≤ length (now (piece .entry)) ⌝ }
+    requires { ⌜ (0 < length (now piece)) × (11 ≤ length (now out)) ⌝ }
+    ensures { λ r. ⌜ (0 < r .used) × (r .used ≤ length (now (piece .entry))) ⌝ }
 {
     let fed = feed(
         start.reader,
@@ -63,7 +65,7 @@ fn play_some(
         reader,
         state,
         on: heard,
-        heard,
+        ended: false,
         used,
     }
 }
@@ -78,7 +80,7 @@ fn play(
     piece: &[u8],
     out: &mut [u8],
 ) -> Session
-    requires { ⌜ length (now piece) ≤ 65536 ⌝ }
+    requires { ⌜ (length (now piece) ≤ 65536) × (11 ≤ length (now out)) ⌝ }
 {
     let mut now = start;
     let mut at = 0;
@@ -88,15 +90,26 @@ fn play(
         if !now.on {
             return now;
         }
-        if used == 0 {
-            return now;
-        }
         at += used;
     }
     now
 }
 
-// Waits for a piece of the input and plays it, or ends with the input.
+// No more of the input is played.
+fn stopped(last: Session, ended: bool) -> Session {
+    let reader = last.reader;
+    let state = last.state;
+    Session {
+        reader,
+        state,
+        on: false,
+        ended,
+        used: 0,
+    }
+}
+
+// Waits for a piece of the input and plays it. A read that fails is not the end of the input: it is told, and a line that
+// has begun is not answered.
 fn listen(
     start: Session,
     rom: &[u8],
@@ -106,19 +119,18 @@ fn listen(
     piece: &mut [u8],
     out: &mut [u8],
 ) -> Session
-    requires { ⌜ length (now piece) ≤ 65536 ⌝ }
+    requires { ⌜ (length (now piece) ≤ 65536) × (11 ≤ length (now out)) ⌝ }
 {
     let got = libc::read(STDIN_FILENO, piece);
-    if got <= 0 {
-        let reader = start.reader;
-        let state = start.state;
-        return Session {
-            reader,
-            state,
-            on: false,
-            heard: true,
-            used: 0,
-        };
+    if got < 0 {
+        io::write_all(
+            STDERR_FILENO,
+            b"bus: standard input could not be read further; the whole lines before that are answered\n",
+        );
+        return stopped(start, false);
+    }
+    if got == 0 {
+        return stopped(start, true);
     }
     let n = io::count(got, piece);
     play(start, rom, ram, store, image, &piece[..n], out)
@@ -134,7 +146,7 @@ fn converse(
     piece: &mut [u8],
     out: &mut [u8],
 ) -> Session
-    requires { ⌜ length (now piece) ≤ 65536 ⌝ }
+    requires { ⌜ (length (now piece) ≤ 65536) × (11 ≤ length (now out)) ⌝ }
 {
     let mut now = start;
     let mut turns = u64::MAX;
@@ -167,7 +179,7 @@ fn main() {
         reader: Reader::new(),
         state: Controller::reset(),
         on: true,
-        heard: true,
+        ended: false,
         used: 0,
     };
     let last = converse(
@@ -179,7 +191,7 @@ fn main() {
         &mut piece,
         &mut out,
     );
-    if last.heard {
+    if last.ended {
         end(last, &rom, &mut ram, &mut store, &mut image);
     }
 }
