@@ -31,6 +31,34 @@ fn within(n: usize, buf: &[u8]) -> usize
     most
 }
 
+// How much of the input was read, and whether that is all of it, or all that fits.
+struct Gathered {
+    length: usize,
+    whole: bool,
+}
+
+// Reads until the buffer is full, the input ends or a read fails, which is not the end of the input.
+fn gather(buf: &mut [u8]) -> Gathered
+    ensures { λ r. ⌜ Counts (r .length) (now (buf .exit)) ⌝ }
+{
+    let mut at = 0;
+    while at < buf.len() {
+        let got = libc::read(STDIN_FILENO, &mut buf[at..]);
+        let more = io::count(got, &buf[at..]);
+        if more == 0 {
+            return Gathered {
+                length: at,
+                whole: got == 0,
+            };
+        }
+        at += more;
+    }
+    Gathered {
+        length: at,
+        whole: true,
+    }
+}
+
 // How many bytes of a report are m.
 fn count(report: &[u8], m: u8) -> usize
     ensures { λ r. ⌜ r ≡ counted m (now (report .entry)) ⌝ }
@@ -66,17 +94,13 @@ fn finish(text: &[u8], report: &[u8]) {
     }
 }
 
-// The buffers have room for all that a script of the size gives, and one byte more of it is read than is allowed.
-fn main() {
-    let mut script = [0u8; 32769];
-    let mut text = [0u8; 32769];
-    let mut report = [0u8; 32768];
-    let got = io::read_full(STDIN_FILENO, &mut script);
-    let answer = salvaging::salvage(&script[..got], &mut text, &mut report);
+// Salvages a script and tells how it went.
+fn clean(script: &[u8], text: &mut [u8], report: &mut [u8]) {
+    let answer = salvaging::salvage(script, text, report);
     match answer {
         Salvaged::Cleaned(length, lines) => {
-            let n = within(length, &text);
-            let m = within(lines, &report);
+            let n = within(length, text);
+            let m = within(lines, report);
             finish(&text[..n], &report[..m]);
         }
         Salvaged::Refused(why) => {
@@ -84,5 +108,19 @@ fn main() {
             number(why.number() as u64);
             say(b": a script has at most 32768 bytes\n");
         }
+    }
+}
+
+// The buffers have room for all that a script of the size gives, and one byte more of it is read than is allowed.
+fn main() {
+    let mut script = [0u8; 32769];
+    let mut text = [0u8; 32769];
+    let mut report = [0u8; 32768];
+    let got = gather(&mut script);
+    let n = within(got.length, &script);
+    if got.whole {
+        clean(&script[..n], &mut text, &mut report);
+    } else {
+        say(b"salvage: standard input could not be read to its end; nothing is written\n");
     }
 }
