@@ -395,7 +395,7 @@ module _ (w : World) (im : List ℕ) (own : w .state .held ≡ true → w .store
     call-count (place file) = refl
 
     -- what is told accepted is answered with no refusal
-    write-number : (image : List ℕ) (a v : ℕ) → eqb (refusalIn (answers w (write image a v))) 0 ≡ writeAccepted (seen w im) image a
+    pub write-number : (image : List ℕ) (a v : ℕ) → eqb (refusalIn (answers w (write image a v))) 0 ≡ writeAccepted (seen w im) image a
     unfolding answers writeAccepted
     write-number image a v =
         ap (λ (n : ℕ). eqb n 0) (write-refuses c (w .ram) (w .store) image a v .numbered) ∙ write-none c (w .ram) (w .store) image a exists
@@ -405,7 +405,7 @@ module _ (w : World) (im : List ℕ) (own : w .state .held ≡ true → w .store
     choose-number light level plain exposure =
         ap (λ (n : ℕ). eqb n 0) (choose-refuses c light level plain exposure .numbered) ∙ choose-none c light level exists
 
-    place-number : (file : List ℕ) → eqb (refusalIn (answers w (place file))) 0 ≡ placeAccepted (seen w im) file
+    pub place-number : (file : List ℕ) → eqb (refusalIn (answers w (place file))) 0 ≡ placeAccepted (seen w im) file
     unfolding answers placeAccepted
     place-number file = ap (λ (n : ℕ). eqb n 0) (place-refuses c (w .ram) file .numbered) ∙ place-none c (w .ram) file exists
 

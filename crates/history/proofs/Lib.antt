@@ -15,5 +15,7 @@ pub mod Picture
 pub mod Chosen
 pub mod Placed
 pub mod TwoTicks
+pub mod Observed
 pub mod Worked
 pub mod WorkedBits
+pub mod WorkedSeen

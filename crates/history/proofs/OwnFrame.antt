@@ -41,7 +41,7 @@ at-end ram store before start between last h =
 
 -- ---- and every capture held has such a start
 
-goes-first : (t : Track) (k : Call) (cs : List Call) → isReset k ≡ false → ends t k ≡ false → goesOn (next t k) cs ≡ true → goesOn t (k ∷ cs) ≡ true
+pub goes-first : (t : Track) (k : Call) (cs : List Call) → isReset k ≡ false → ends t k ≡ false → goesOn (next t k) cs ≡ true → goesOn t (k ∷ cs) ≡ true
 unfolding goesOn
 goes-first t k cs r e g = rw (r, e) g
 

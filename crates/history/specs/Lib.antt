@@ -2,6 +2,7 @@
 pub mod History
 pub mod Track
 pub mod Since
+pub mod Seen
 pub mod Bits
 pub mod Counts
 pub mod Writes
