@@ -91,7 +91,7 @@ total-small : (regs : List ℕ) → Bytes regs → totalOf regs < 4294967296
 unfolding totalOf exposureOf
 total-small regs b = pick-ind (λ n. 32446 + n + 16 * (getD regs 2 0 * 256 + getD regs 3 0) < 4294967296) (nSet regs) (λ t. omega (arith, b 2, b 3)) (λ t. omega (arith, b 2, b 3))
 
-elapsed-small : (c : Controller) → cantExist c ≡ false → Bytes (c .taken) → c .elapsed .0 < 4294967296
+pub elapsed-small : (c : Controller) → cantExist c ≡ false → Bytes (c .taken) → c .elapsed .0 < 4294967296
 unfolding leftOver
 elapsed-small c e b =
     either (c .held) (λ h. omega (arith, before-total c e h, total-small (c .taken) b))

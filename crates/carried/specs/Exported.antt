@@ -1,0 +1,119 @@
+-- Exported calls one after the other: each is lent the state's bytes, the RAM and the frame store as the last one left them. Assumes nothing.
+use mathlib.Core.Bool.{Bool, true, false, _&&_}
+use mathlib.Core.List.{List, [], _∷_}
+use Prim.Native.Nat.{ℕ, _+_, _/_, _%_}
+use lib.Dec.{ltb}
+use Rattle.controller.specs.State.{resetState}
+use Rattle.layout.specs.Layout.{encoded}
+use Rattle.embed.specs.Exports.{resetBytes, readBytes, writeBytes, tickBytes, inspectBytes, chooseBytes, placeBytes}
+
+-- what is handed on from call to call
+pub record Kept : Type 0 where
+  pub state : List ℕ
+  pub ram : List ℕ
+  pub store : List ℕ
+
+-- a call of an exported function, with what else it is lent or given; no other exported function can write to one of the three
+pub data Export : Type 0 where
+  reset : Export
+  read : (rom : List ℕ) (address : ℕ) → Export
+  write : (image : List ℕ) (address byte : ℕ) → Export
+  tick : (cycles : ℕ) → Export
+  inspect : Export
+  choose : (light level plain exposure : ℕ) → Export
+  place : (file : List ℕ) → Export
+
+-- the bytes of reset, with any RAM and frame store
+abbrev pub atReset : List ℕ → List ℕ → Kept
+atReset ram store = record { state = encoded resetState; ram = ram; store = store }
+
+-- what a call hands on: what it leaves of the bytes that it is lent, refused or not, and the others as they were
+unfoldable pub hands : Kept → Export → Kept
+hands b reset = record { state = resetBytes (b .state) .state; ram = b .ram; store = b .store }
+hands b (read rom a) = record {
+  state = readBytes (b .state) rom (b .ram) a .state;
+  ram = readBytes (b .state) rom (b .ram) a .ram;
+  store = b .store;
+}
+hands b (write image a v) = record {
+  state = writeBytes (b .state) (b .ram) (b .store) image a v .state;
+  ram = writeBytes (b .state) (b .ram) (b .store) image a v .ram;
+  store = writeBytes (b .state) (b .ram) (b .store) image a v .store;
+}
+hands b (tick n) = record {
+  state = tickBytes (b .state) (b .ram) (b .store) n .state;
+  ram = tickBytes (b .state) (b .ram) (b .store) n .ram;
+  store = tickBytes (b .state) (b .ram) (b .store) n .store;
+}
+hands b inspect = b
+hands b (choose light level plain exposure) = record {
+  state = chooseBytes (b .state) light level plain exposure .state;
+  ram = b .ram;
+  store = b .store;
+}
+hands b (place file) = record {
+  state = placeBytes (b .state) (b .ram) file .state;
+  ram = placeBytes (b .state) (b .ram) file .ram;
+  store = b .store;
+}
+
+-- what it answers
+unfoldable pub replies : Kept → Export → ℕ
+replies b reset = resetBytes (b .state) .answer
+replies b (read rom a) = readBytes (b .state) rom (b .ram) a .answer
+replies b (write image a v) = writeBytes (b .state) (b .ram) (b .store) image a v .answer
+replies b (tick n) = tickBytes (b .state) (b .ram) (b .store) n .answer
+replies b inspect = inspectBytes (b .state)
+replies b (choose light level plain exposure) = chooseBytes (b .state) light level plain exposure .answer
+replies b (place file) = placeBytes (b .state) (b .ram) file .answer
+
+-- an answer's refusal number, and its value
+abbrev pub numberIn : ℕ → ℕ
+numberIn answer = answer / 4294967296
+
+abbrev pub valueIn : ℕ → ℕ
+valueIn answer = answer % 4294967296
+
+-- the count of running cycles that a call returned: a tick's value
+unfoldable pub countIn : Kept → Export → ℕ
+countIn b reset = 0
+countIn b (read rom a) = 0
+countIn b (write image a v) = 0
+countIn b (tick n) = valueIn (replies b (tick n))
+countIn b inspect = 0
+countIn b (choose light level plain exposure) = 0
+countIn b (place file) = 0
+
+-- what a list of calls hands on, the first call first
+unfoldable pub handsOn : Kept → List Export → Kept
+handsOn b [] = b
+handsOn b (c ∷ cs) = handsOn (hands b c) cs
+
+-- the counts that a list of calls returned, added up
+unfoldable pub counted : Kept → List Export → ℕ
+counted b [] = 0
+counted b (c ∷ cs) = countIn b c + counted (hands b c) cs
+
+-- whether a call is a reset
+unfoldable pub isReset : Export → Bool
+isReset reset = true
+isReset (read rom a) = false
+isReset (write image a v) = false
+isReset (tick n) = false
+isReset inspect = false
+isReset (choose light level plain exposure) = false
+isReset (place file) = false
+
+-- a call's numbers are of the widths that the function takes: a byte of 8 bits, cycles of 32
+unfoldable pub fits : Export → Bool
+fits reset = true
+fits (read rom a) = true
+fits (write image a v) = ltb v 256
+fits (tick n) = ltb n 4294967296
+fits inspect = true
+fits (choose light level plain exposure) = true
+fits (place file) = true
+
+unfoldable pub allFit : List Export → Bool
+allFit [] = true
+allFit (c ∷ cs) = fits c && allFit cs
