@@ -9,7 +9,7 @@ use Rattle.laws.proofs.Bools.{both-left, both-right}
 use Rattle.controller.specs.declared.Controller.{Controller}
 use Rattle.controller.specs.Calls.{readMeans, writeMeans, tickMeans}
 use Rattle.desk.specs.Choice.{chooseMeans}
-use Rattle.plates.specs.Placing.{placeMeans}
+use Rattle.placing.specs.Placing.{placeMeans}
 use Rattle.layout.specs.Layout.{encoded, isRecord, registersAt, decoded}
 use Rattle.layout.proofs.Inverse.{Whole, encoded-length, encoded-record, decode-encode}
 use Rattle.embed.specs.Exports.{Called, asBytes, plainIn, exposureIn}

@@ -8,7 +8,7 @@ use lib.ListN.{getD, set}
 use Rattle.laws.specs.Pick.{pick}
 use Rattle.timing.specs.Timing.{totalOf}
 use Rattle.tiles.specs.Tiles.{areaOf, Bytes}
-use Rattle.plates.specs.Placing.{pixelsOf, placedByte}
+use Rattle.placing.specs.Placing.{pixelsOf, placedByte}
 use Rattle.layout.specs.Layout.{registersAt, decoded}
 use Rattle.history.specs.Track.{inArea}
 use Rattle.history.specs.Seen.{goesTo, afresh}

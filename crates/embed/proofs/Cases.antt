@@ -35,10 +35,10 @@ use Rattle.lines.specs.declared.record.Recorded.{Recorded}
 use Rattle.lines.specs.declared.record.Recorded.the-variants as answers
 use Rattle.lines.specs.Record.{Recording, recorded, recordMeans}
 use Rattle.lines.proofs.Recorded.{record-most}
-use Rattle.plates.specs.declared.grey.Output.{Output}
-use Rattle.plates.specs.Grey.{Exported, exported, outputNumber, outputValue, exportMeans}
-use Rattle.plates.specs.Shades.{shadesMeans}
-use Rattle.plates.specs.Placing.{placeRows, placeMeans}
+use Rattle.shades.specs.declared.Output.{Output}
+use Rattle.shades.specs.Shades.{Exported, exported, outputNumber, outputValue, shadesMeans}
+use Rattle.plates.specs.Grey.{exportMeans}
+use Rattle.placing.specs.Placing.{placeRows, placeMeans}
 use Rattle.readings.specs.Readings.{readingsMean}
 use Rattle.photos.specs.Photo.{imported, importMeans}
 use Rattle.desk.specs.declared.choice.Exposure.{Exposure}

@@ -10,9 +10,10 @@ use Rattle.controller.specs.Calls.{refusal}
 use Rattle.controller.proofs.Refusals.{Refuses, inOutcome, write-refuses, tick-refuses}
 use Rattle.laws.proofs.Bools.{either}
 use Rattle.desk.proofs.Choices.{choose-refuses}
-use Rattle.plates.specs.Grey.{Exported, exported}
-use Rattle.plates.proofs.Exports.{inExported, export-refuses, shades-refuses}
-use Rattle.plates.proofs.Placed.{place-refuses}
+use Rattle.shades.specs.Shades.{Exported, exported}
+use Rattle.shades.proofs.Outputs.{inExported, shades-refuses}
+use Rattle.plates.proofs.Exports.{export-refuses}
+use Rattle.placing.proofs.Placed.{place-refuses}
 use Rattle.readings.proofs.Values.{readings-refuse}
 use Rattle.layout.specs.Layout.{encoded, isRecord, decoded}
 use Rattle.embed.specs.Exports.{Called, asBytes, unread, writeBytes, tickBytes, plainIn, exposureIn, chooseBytes, exportBytes, shadesBytes, placeBytes, readingsBytes, reported, salvageBytes}

@@ -22,12 +22,13 @@ use Rattle.controller.proofs.Refusals.{Refuses, inOutcome, read-refuses, write-
 use Rattle.lines.specs.declared.line.Frame.{Frame}
 use Rattle.lines.specs.Record.{recordMeans}
 use Rattle.lines.proofs.Recorded.{record-most}
-use Rattle.plates.specs.Grey.{Exported, exported, exportMeans}
-use Rattle.plates.specs.Shades.{shadesMeans}
-use Rattle.plates.specs.Placing.{placeMeans}
-use Rattle.plates.proofs.Exports.{inExported, export-refuses, shades-refuses}
+use Rattle.shades.specs.Shades.{Exported, exported, shadesMeans}
+use Rattle.plates.specs.Grey.{exportMeans}
+use Rattle.placing.specs.Placing.{placeMeans}
+use Rattle.shades.proofs.Outputs.{inExported, shades-refuses}
+use Rattle.plates.proofs.Exports.{export-refuses}
 use Rattle.readings.specs.Readings.{readingsMean}
-use Rattle.plates.proofs.Placed.{place-refuses}
+use Rattle.placing.proofs.Placed.{place-refuses}
 use Rattle.readings.proofs.Values.{readings-refuse}
 use Rattle.photos.specs.Photo.{importMeans}
 use Rattle.desk.specs.Choice.{chooseMeans}

@@ -13,9 +13,9 @@ use Rattle.controller.specs.Inspect.{inspectMeans}
 use Rattle.controller.specs.Picture.{Afresh, pictureMeans}
 use Rattle.lines.specs.declared.line.Frame.{Frame}
 use Rattle.lines.specs.Record.{Recording, recordMeans}
-use Rattle.plates.specs.Grey.{Exported, exportMeans}
-use Rattle.plates.specs.Shades.{shadesMeans}
-use Rattle.plates.specs.Placing.{placeMeans}
+use Rattle.shades.specs.Shades.{Exported, shadesMeans}
+use Rattle.plates.specs.Grey.{exportMeans}
+use Rattle.placing.specs.Placing.{placeMeans}
 use Rattle.readings.specs.Readings.{readingsMean}
 use Rattle.photos.specs.Photo.{Imported, importMeans}
 use Rattle.desk.specs.declared.choice.Exposure.{Exposure}

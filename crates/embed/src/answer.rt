@@ -2,13 +2,13 @@
 use controller::Refusal;
 use controller::WriteAnswer;
 use lines::record::Recorded;
-use plates::grey::Output;
+use shades::Output;
 ghost use mathlib.Core.Path.{_≡_};
 ghost use mathlib.Core.List.{[]};
 ghost use Prim.Native.Nat.{_≤_};
 ghost use Rattle.controller.specs.Outcome.{numberOf, writeNumber};
 ghost use Rattle.lines.specs.Record.{recorded};
-ghost use Rattle.plates.specs.Grey.{outputNumber, outputValue};
+ghost use Rattle.shades.specs.Shades.{outputNumber, outputValue};
 ghost use Rattle.embed.specs.Packed.{packed};
 ghost use Rattle.embed.specs.Exports.{asLine};
 

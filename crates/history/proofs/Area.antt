@@ -10,9 +10,9 @@ use Rattle.laws.specs.Pick.{pick}
 use Rattle.laws.proofs.Order.{split}
 use Rattle.laws.proofs.Pick.{pick-ind}
 use Rattle.laws.proofs.Packed.{packed-byte}
-use Rattle.plates.specs.Placing.{pixelsOf, shadeOf, shadeAt, placedByte, placedIn}
-use Rattle.plates.proofs.Placed.{placed-byte}
-use Rattle.plates.proofs.Left.{left-outside, left-inside}
+use Rattle.placing.specs.Placing.{pixelsOf, shadeOf, shadeAt, placedByte, placedIn}
+use Rattle.placing.proofs.Placed.{placed-byte}
+use Rattle.placing.proofs.Left.{left-outside, left-inside}
 use Rattle.history.specs.Track.{inArea}
 
 -- each byte of a file in the area is a byte

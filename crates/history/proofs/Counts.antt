@@ -19,7 +19,7 @@ use Rattle.controller.specs.Calls.{readRows, readMeans}
 use Rattle.controller.proofs.Refusals.{judged-ind}
 use Rattle.desk.specs.declared.choice.Exposure.{Exposure}
 use Rattle.desk.specs.Choice.{beyond, withRegisters}
-use Rattle.plates.specs.Placing.{isPlate}
+use Rattle.placing.specs.Placing.{isPlate}
 use Rattle.history.specs.History.{Call, reset, read, write, tick, inspect, choose, place, World, fresh, leaves, after}
 use Rattle.history.specs.Track.{Track, atReset, writeAccepted, toRegisters, ends, starts, next, seen}
 use Rattle.history.specs.Since.{isReset}

@@ -35,9 +35,9 @@ use Rattle.timing.specs.Bulk.{doneBy}
 use Rattle.desk.specs.declared.choice.Exposure.{Exposure}
 use Rattle.desk.specs.Choice.{beyond, registersChosen, withRegisters, chooseRows, chooseMeans}
 use Rattle.desk.proofs.Choices.{choose-none, choose-refuses}
-use Rattle.plates.specs.Placing.{isPlate, pixelsOf, placedByte, placedIn, placeRows, placeMeans}
-use Rattle.plates.proofs.Placed.{place-none, place-refuses}
-use Rattle.plates.proofs.Left.{left-length}
+use Rattle.placing.specs.Placing.{isPlate, pixelsOf, placedByte, placedIn, placeRows, placeMeans}
+use Rattle.placing.proofs.Placed.{place-none, place-refuses}
+use Rattle.placing.proofs.Left.{left-length}
 use Rattle.history.specs.History.{Call, reset, read, write, tick, inspect, choose, place, World, fresh, leftBy, leaves, answers, refusalIn, countIn, after}
 use Rattle.history.specs.Track.{toRam, placeOf, inArea, lands, byteIn, Track, atReset, writeAccepted, tickAccepted, choiceAccepted, placeAccepted, cyclesOf, runsIn, ends, enabling, selecting, storing, beginning, running, ending, controlled, registered, written, next, follow, told, seen, Told}
 use Rattle.history.proofs.Picks.{paired, by-test, not-both}

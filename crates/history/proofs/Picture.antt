@@ -22,7 +22,7 @@ use Rattle.timing.proofs.Range.{done-all, done-most}
 use Rattle.tiles.proofs.Pixels.{pixels-bytes}
 use Rattle.tiles.proofs.Area.{area-whole}
 use Rattle.plates.specs.Grey.{plateOf, plateAfresh}
-use Rattle.plates.specs.Placing.{pixelsOf}
+use Rattle.placing.specs.Placing.{pixelsOf}
 use Rattle.plates.proofs.Same.{afresh-plate}
 use Rattle.history.specs.History.{Call, reset, read, write, tick, inspect, choose, place, World, fresh, leaves, after, counted}
 use Rattle.history.specs.Track.{Track, runsIn, starts, ends, imageIn, registersAt, inArea, lands, byteIn, next, told}

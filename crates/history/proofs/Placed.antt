@@ -22,9 +22,9 @@ use Rattle.controller.proofs.Written.{written-ram}
 use Rattle.tiles.specs.Tiles.{areaOf}
 use Rattle.desk.specs.Choice.{stored}
 use Rattle.desk.proofs.Registers.{stored-length, stored-before, stored-at}
-use Rattle.plates.specs.Placing.{isPlate, pixelsOf, placedByte, placedArea, placedIn, placeRows}
-use Rattle.plates.proofs.Placed.{place-fits, place-refuses}
-use Rattle.plates.proofs.Left.{left-length, left-area}
+use Rattle.placing.specs.Placing.{isPlate, pixelsOf, placedByte, placedArea, placedIn, placeRows}
+use Rattle.placing.proofs.Placed.{place-fits, place-refuses}
+use Rattle.placing.proofs.Left.{left-length, left-area}
 use Rattle.history.specs.History.{Call, reset, read, write, tick, inspect, choose, place, World, fresh, leaves, answers, refusalIn, after}
 use Rattle.history.specs.Track.{Track, placeAccepted, runsIn, starts, ends, inArea, lands, next, follow, told}
 use Rattle.history.specs.Since.{Held, Clear, noStart}

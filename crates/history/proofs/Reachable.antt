@@ -25,8 +25,8 @@ use Rattle.desk.specs.declared.choice.Exposure.{Exposure}
 use Rattle.desk.specs.Choice.{registersChosen, withRegisters, chooseRows, chooseMeans}
 use Rattle.desk.proofs.Choices.{choose-refuses}
 use Rattle.desk.proofs.Level.{chosen-length, chosen-exists}
-use Rattle.plates.specs.Placing.{placeRows, placeMeans}
-use Rattle.plates.proofs.Placed.{place-refuses}
+use Rattle.placing.specs.Placing.{placeRows, placeMeans}
+use Rattle.placing.proofs.Placed.{place-refuses}
 use Rattle.history.specs.History.{Call, reset, read, write, tick, inspect, choose, place, World, fresh, leaves, answers, refusalIn, after}
 use Rattle.history.proofs.Exists.{exists-reset, exists-enabled, exists-bank, exists-select, exists-register, exists-stored, exists-begun}
 

@@ -17,7 +17,7 @@ use Rattle.tiles.specs.Tiles.{shadeIn, areaOf, Bytes}
 use Rattle.tiles.specs.Picture.{pictureShade, pictureOf}
 use Rattle.controller.specs.Bus.{onCartridge}
 use Rattle.plates.specs.Grey.{plateOf}
-use Rattle.plates.proofs.RoundTrip.{out-in, plate-is}
+use Rattle.placing.proofs.RoundTrip.{out-in, plate-is}
 use Rattle.history.specs.History.{Call, reset, read, write, tick, inspect, place, fresh, after, counted}
 use Rattle.history.specs.Track.{atReset, writeAccepted, tickAccepted, placeAccepted, cyclesOf, runsIn, ends, toRegisters, starts, imageIn, registersAt, toRam, placeOf, inArea, lands, byteIn, enabling, selecting, storing, beginning, running, ending, controlled, registered, written, next, follow, told}
 use Rattle.history.specs.Since.{isReset, goesOn, Held, Whole, ofPixel, cycleOf, landed, Clear, noStart, lastIn, writesByte, bytesIn}

@@ -13,8 +13,8 @@ use Rattle.timing.specs.Lent.{banksAllowed}
 use Rattle.timing.specs.Timing.{readingFrom, firstRow}
 use Rattle.tiles.specs.Picture.{pictureShade}
 use Rattle.controller.specs.Bus.{onCartridge}
-use Rattle.plates.specs.Placing.{pixelsOf, placedByte, placedArea}
-use Rattle.plates.proofs.RoundTrip.{out-in, plate-is}
+use Rattle.placing.specs.Placing.{pixelsOf, placedByte, placedArea}
+use Rattle.placing.proofs.RoundTrip.{out-in, plate-is}
 use Rattle.history.specs.History.{Call, write, tick, place, fresh, after}
 use Rattle.history.specs.Track.{atReset, writeAccepted, tickAccepted, placeAccepted, cyclesOf, runsIn, ends, toRam, placeOf, inArea, lands, byteIn, enabling, selecting, storing, beginning, running, ending, controlled, registered, written, next}
 use Rattle.history.specs.Since.{cycleOf}

@@ -9,7 +9,7 @@ use Rattle.controller.specs.Calls.{readMeans, writeMeans, tickMeans}
 use Rattle.controller.specs.Inspect.{inspectMeans}
 use Rattle.desk.specs.declared.choice.Exposure.{Exposure}
 use Rattle.desk.specs.Choice.{chooseMeans}
-use Rattle.plates.specs.Placing.{placeMeans}
+use Rattle.placing.specs.Placing.{placeMeans}
 
 -- a call: a reset; a read with the ROM lent and an address; a write with the image lent, an address and a byte; a tick of so many cycles; an inspection;
 -- a choice at the desk of a light set, a level, dithering off or not, and an exposure; a placing with the file lent

@@ -11,7 +11,7 @@ use Rattle.timing.specs.Lent.{ramAllowed, frameAllowed}
 use Rattle.controller.specs.State.{started, noRegisters}
 use Rattle.controller.specs.Bus.{onCartridge}
 use Rattle.desk.specs.Choice.{beyond, registersChosen}
-use Rattle.plates.specs.Placing.{isPlate, pixelsOf, placedByte}
+use Rattle.placing.specs.Placing.{isPlate, pixelsOf, placedByte}
 use Rattle.history.specs.History.{Call, reset, read, write, tick, inspect, choose, place, World}
 
 -- the sizes lent; RAM writing enabled, select and registers, as the writes left them; whether a capture is held, and of that capture

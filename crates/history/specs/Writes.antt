@@ -5,7 +5,7 @@ use Prim.Native.Nat.{ℕ, zero, suc, _+_, _/_, _%_}
 use Rattle.laws.specs.Pick.{pick}
 use Rattle.desk.specs.declared.choice.Exposure.{Exposure}
 use Rattle.desk.specs.Choice.{stepsOf, valueOf}
-use Rattle.plates.specs.Placing.{pixelsOf, placedByte}
+use Rattle.placing.specs.Placing.{pixelsOf, placedByte}
 use Rattle.history.specs.History.{Call, write}
 
 -- writes of f 0 .. f (n − 1), in order, to the registers or the RAM places from one on

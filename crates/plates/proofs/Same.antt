@@ -1,10 +1,10 @@
 -- A plate's file has all of the picture area and nothing else of the RAM. Assumes nothing.
-use mathlib.Core.Path.{_≡_, refl, sym, ap, ap₂, _∙_}
+use mathlib.Core.Path.{_≡_, sym, ap, ap₂, _∙_}
 use mathlib.Core.Logic.{_↔_}
 use mathlib.Core.List.{List, _++_}
 use Prim.Native.Nat.{ℕ, _+_, _-_, _*_, _/_, _%_, _<_, _≤_}
 use native.Mathlib.Omega.{arith}
-use lib.ListN.{length, getD, take, drop}
+use lib.ListN.{length, getD, drop}
 use lib.Seq.{getD-take, getD-drop}
 use Rattle.laws.specs.Lists.{listed}
 use Rattle.laws.specs.Bits.{bitOf}
@@ -12,7 +12,7 @@ use Rattle.laws.proofs.Packed.{listed-at, listed-ext}
 use Rattle.tiles.specs.Tiles.{place, shadeIn, areaOf, Bytes}
 use Rattle.tiles.specs.Picture.{pictureShade, pictureOf}
 use Rattle.tiles.specs.Bulk.{pixels}
-use Rattle.tiles.proofs.Pixels.{pixels-length, pixels-passed}
+use Rattle.tiles.proofs.Pixels.{pixels-passed}
 use Rattle.tiles.proofs.Area.{Alike, area-ext, shadeIn-small, pixels-whole}
 use Rattle.plates.specs.Grey.{header, greyOf, greyAt, plateOf, plateAfresh}
 

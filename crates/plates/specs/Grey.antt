@@ -1,13 +1,10 @@
 -- The picture area as a grey image: a Netpbm file of kind P5. Assumes nothing.
 use mathlib.Core.List.{List, [], _∷_, _++_}
-use Prim.Native.Nat.{ℕ, _+_, _-_, _*_, _/_, _%_}
+use Prim.Native.Nat.{ℕ, _-_, _*_, _/_, _%_}
 use lib.ListN.{length, drop}
 use Rattle.laws.specs.Lists.{listed}
-use Rattle.tiles.specs.Tiles.{shadeIn}
 use Rattle.tiles.specs.Picture.{pictureShade}
-use Rattle.plates.specs.declared.grey.Output.{Output}
-use Rattle.plates.specs.declared.grey.Output.the-variants as outputs
-use Rattle.controller.specs.Outcome.{numberOf}
+use Rattle.shades.specs.Shades.{shadeNth, Exported, exported}
 use Rattle.controller.specs.Table.{Row, noRam, noRoom, lowest, judged}
 
 -- the header: `P5`, LF, `128 112`, LF, `255`, LF
@@ -19,11 +16,7 @@ header =
 unfoldable pub greyOf : ℕ → ℕ
 greyOf shade = 255 - 85 * shade
 
--- the shade of pixel k, row by row: column k mod 128 of row k/128
-abbrev pub shadeNth : List ℕ → ℕ → ℕ
-shadeNth ram k = shadeIn ram (k % 128) (k / 128)
-
--- its grey
+-- the grey of pixel k
 unfoldable pub greyAt : List ℕ → ℕ → ℕ
 greyAt ram k = greyOf (shadeNth ram k)
 
@@ -38,24 +31,6 @@ plateAfresh frame regs = header ++ listed (λ k. greyOf (pictureShade frame regs
 -- Refusals: 3 first, then 7 for a shorter buffer
 unfoldable pub exportRows : List ℕ → List ℕ → List Row
 exportRows ram out = noRam (length ram) ∷ noRoom 14351 (length out) ∷ []
-
--- refusal number (0: none), how many bytes were written, and the buffer afterwards
-pub record Exported : Type 0 where
-  pub number : ℕ
-  pub value : ℕ
-  pub bytes : List ℕ
-
-abbrev pub exported : ℕ → ℕ → List ℕ → Exported
-exported n v bytes = record { number = n; value = v; bytes = bytes }
-
--- what an export answers: the bytes written, or none
-abbrev pub outputNumber : Output → ℕ
-outputNumber (outputs.Bytes n) = 0
-outputNumber (outputs.Refused why) = numberOf why
-
-abbrev pub outputValue : Output → ℕ
-outputValue (outputs.Bytes n) = n
-outputValue (outputs.Refused why) = 0
 
 -- The output is exactly 14,351 bytes; bytes beyond stay. Refused, nothing is written
 unfoldable pub exportMeans : List ℕ → List ℕ → Exported

@@ -1,5 +1,2 @@
--- Plates as files, in the requests' order.
+-- Plates as files.
 pub mod Grey
-pub mod Placing
-pub mod Shades
-pub mod Eight

@@ -1,9 +1,9 @@
 // The picture area as a Netpbm file of kind P5, whether or not a capture is running.
-use super::shades::put_shades;
-use controller::Refusal;
 use controller::Verdict;
 use controller::judge::no_ram;
 use controller::judge::no_room;
+use shades::Output;
+use shades::put_shades;
 ghost use mathlib.Core.Path.{_≡_};
 ghost use mathlib.Core.List.{_++_};
 ghost use Prim.Native.Nat.{ℕ, _<_, _≤_};
@@ -11,19 +11,14 @@ ghost use lib.ListN.{length, getD, drop};
 ghost use Rattle.laws.specs.Lists.{listed};
 ghost use Rattle.controller.specs.Outcome.{verdictNumber};
 ghost use Rattle.controller.specs.Table.{lowest};
-ghost use Rattle.plates.specs.Grey.{header, greyOf, greyAt, plateOf, outputNumber, outputValue, exported, exportRows, exportMeans};
-ghost use Rattle.plates.specs.Eight.{Shades};
+ghost use Rattle.plates.specs.Grey.{header, greyOf, greyAt, plateOf, exportRows, exportMeans};
+ghost use Rattle.shades.specs.Shades.{outputNumber, outputValue, exported};
+ghost use Rattle.shades.specs.Eight.{Shades};
 
 // What a file starts with: kind, columns, rows and largest value.
-pub(crate) const HEADER: [u8; 15] = *b"P5\n128 112\n255\n";
+pub const HEADER: [u8; 15] = *b"P5\n128 112\n255\n";
 // The bytes of a file.
 pub const FILE: usize = 14351;
-
-// How many bytes were written, or why none.
-pub enum Output {
-    Bytes(u32),
-    Refused(Refusal),
-}
 
 // The grey of a shade.
 fn grey(shade: u8) -> u8

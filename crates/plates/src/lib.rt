@@ -1,5 +1,2 @@
-// Plates as files that others read and write: the picture area as a grey image (grey), such an image back in the area (placing), and
-// the area as shades (shades).
+// Plates as files that others read: the picture area as a grey image (grey).
 pub mod grey;
-pub mod placing;
-pub mod shades;

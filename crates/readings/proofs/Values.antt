@@ -18,9 +18,10 @@ use Rattle.timing.specs.Lent.{frameAllowed}
 use Rattle.controller.specs.State.{cantExist}
 use Rattle.controller.specs.Table.{lowest}
 use Rattle.controller.proofs.Refusals.{Refuses, refuses, risingFrom, first-fails}
-use Rattle.plates.specs.Grey.{header, greyOf, greyAt, plateOf, exported}
+use Rattle.plates.specs.Grey.{header, greyOf, greyAt, plateOf}
+use Rattle.shades.specs.Shades.{exported}
 use Rattle.readings.specs.Readings.{reading, readingsOf, readingRows, readingsMean}
-use Rattle.plates.proofs.Exports.{inExported}
+use Rattle.shades.proofs.Outputs.{inExported}
 use Rattle.plates.proofs.Same.{afresh-alike}
 
 module _ (c : Controller) (store out : List ℕ) where

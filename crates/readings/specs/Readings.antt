@@ -8,7 +8,8 @@ use Rattle.sensor.specs.Shade.{readingAt}
 use Rattle.controller.specs.declared.Controller.{Controller}
 use Rattle.controller.specs.declared.Refusal.the-variants.{NotHeld}
 use Rattle.controller.specs.Table.{Row, row, noState, noFrame, noRoom, lowest, judged}
-use Rattle.plates.specs.Grey.{header, Exported, exported}
+use Rattle.plates.specs.Grey.{header}
+use Rattle.shades.specs.Shades.{Exported, exported}
 
 -- the value of pixel k, row by row: column k mod 128 of picture row k/128, which is sensor row k/128 + 8
 unfoldable pub reading : List ℕ → List ℕ → ℕ → ℕ

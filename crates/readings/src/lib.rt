@@ -6,9 +6,9 @@ use controller::judge::no_frame;
 use controller::judge::no_room;
 use controller::judge::refused_if;
 use plates::grey::FILE;
-use plates::grey::Output;
 use plates::grey::put_header;
 use sensor::Setting;
+use shades::Output;
 ghost use mathlib.Core.Path.{_≡_};
 ghost use mathlib.Core.List.{_++_};
 ghost use Prim.Native.Nat.{ℕ, _≤_};
@@ -17,7 +17,7 @@ ghost use Rattle.laws.specs.Lists.{listed};
 ghost use Rattle.sensor.specs.Taken.{Asked};
 ghost use Rattle.controller.specs.Outcome.{verdictNumber};
 ghost use Rattle.controller.specs.Table.{lowest};
-ghost use Rattle.plates.specs.Grey.{outputNumber, outputValue, exported};
+ghost use Rattle.shades.specs.Shades.{outputNumber, outputValue, exported};
 ghost use Rattle.readings.specs.Readings.{reading, readingsOf, readingRows, readingsMean};
 
 // All values, row by row: picture row y is sensor row y + 8.

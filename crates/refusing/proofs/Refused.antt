@@ -27,10 +27,11 @@ use Rattle.lines.specs.declared.line.Frame.{Frame}
 use Rattle.lines.specs.Record.{lineOf, cantSay, recordRows, filled as line-filled}
 use Rattle.lines.proofs.Recorded.{record-refuses}
 use Rattle.plates.specs.Grey.{plateOf, exportRows}
-use Rattle.plates.specs.Shades.{shadesOf, shadesRows}
-use Rattle.plates.specs.Placing.{placeRows, placed}
-use Rattle.plates.proofs.Exports.{export-refuses, shades-refuses}
-use Rattle.plates.proofs.Placed.{place-refuses}
+use Rattle.shades.specs.Shades.{shadesOf, shadesRows}
+use Rattle.placing.specs.Placing.{placeRows, placed}
+use Rattle.plates.proofs.Exports.{export-refuses}
+use Rattle.shades.proofs.Outputs.{shades-refuses}
+use Rattle.placing.proofs.Placed.{place-refuses}
 use Rattle.readings.specs.Readings.{readingsOf, readingRows}
 use Rattle.readings.proofs.Values.{readings-refuse}
 use Rattle.photos.specs.Photo.{imageOf, importRows}

@@ -8,7 +8,7 @@ use Rattle.controller.specs.declared.Refusal.the-variants.{State, Room, Script}
 use Rattle.controller.specs.State.{cantExist}
 use Rattle.controller.specs.Table.{Row, row, noRom, noRam, noFrame, noPlace, noRoom, someHeld}
 use Rattle.desk.specs.Choice.{noChoice}
-use Rattle.plates.specs.Placing.{noPlate}
+use Rattle.placing.specs.Placing.{noPlate}
 use Rattle.readings.specs.Readings.{notHeld}
 use Rattle.script.specs.Text.{linesOf}
 use Rattle.salvaging.specs.Salvage.{cleaned}

@@ -1,4 +1,4 @@
--- `plates::readings::judge_readings` meets its contract: row by row. Assumes nothing.
+-- `readings::judge_readings` meets its contract: row by row. Assumes nothing.
 use Rattle.controller.specs.Table.{lowest}
 use Rattle.readings.specs.Readings.{readingRows}
 use borrow.Author.Needs.{needs}

@@ -1,4 +1,4 @@
--- `plates::readings::put_readings` meets its contract: the header, and then the values. Assumes nothing.
+-- `readings::put_readings` meets its contract: the header, and then the values. Assumes nothing.
 use mathlib.Core.Path.{_≡_, _∙_}
 use mathlib.Core.List.{_++_}
 use lib.ListN.{drop}

@@ -1,4 +1,4 @@
--- `plates::readings::put_values` meets its contract: the invariant: the first k values are put. Assumes nothing.
+-- `readings::put_values` meets its contract: the invariant: the first k values are put. Assumes nothing.
 use mathlib.Core.Path.{_≡_, ap}
 use Prim.Native.Nat.{ℕ, _-_, _≤_}
 use native.Mathlib.Omega.{arith}

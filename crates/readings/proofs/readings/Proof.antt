@@ -1,8 +1,8 @@
--- `plates::readings::readings` meets its contract: it is judged, and then done. Assumes nothing.
+-- `readings::readings` meets its contract: it is judged, and then done. Assumes nothing.
 use mathlib.Core.Path.{_≡_, ap, _∙_}
 use Rattle.timing.proofs.Lent.{frame-lent}
 use Rattle.controller.proofs.Refusals.{by-why, by-fits, fits-none}
-use Rattle.plates.specs.Grey.{exported}
+use Rattle.shades.specs.Shades.{exported}
 use Rattle.readings.proofs.Values.{readings-refuse, readings-fit}
 use borrow.Author.Needs.{needs}
 use Rattle.readings.proofs.readings.Statement.{statement}

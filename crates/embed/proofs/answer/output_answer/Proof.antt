@@ -1,8 +1,8 @@
 -- `embed::answer::output_answer` meets its contract: the bytes written, or the refusal. Assumes nothing.
 use mathlib.Core.Path.{sym, ap, _∙_}
 use borrow.Author.Needs.{needs}
-use Rattle.plates.specs.declared.grey.Output.{Output}
-use Rattle.plates.specs.Grey.{outputNumber, outputValue}
+use Rattle.shades.specs.declared.Output.{Output}
+use Rattle.shades.specs.Shades.{outputNumber, outputValue}
 use Rattle.embed.specs.Packed.{packed}
 use Rattle.embed.proofs.answer.output_answer.Statement.{statement}
 use Rattle.embed.proofs.answer.output_answer.Tie as tie

@@ -3,7 +3,7 @@ use mathlib.Core.Path.{_≡_, ap, _∙_}
 use native.Mathlib.Omega.{arith}
 use Rattle.timing.proofs.Lent.{ram-lent}
 use Rattle.controller.proofs.Refusals.{by-why, by-fits, fits-none}
-use Rattle.plates.specs.Grey.{exported}
+use Rattle.shades.specs.Shades.{exported}
 use Rattle.plates.proofs.Exports.{export-refuses, export-fits}
 use borrow.Author.Needs.{needs}
 use Rattle.plates.proofs.grey.export.Statement.{statement}

@@ -1,0 +1,3 @@
+-- The picture area as shades.
+pub mod Shades
+pub mod Eight
