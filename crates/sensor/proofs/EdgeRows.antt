@@ -8,7 +8,6 @@ use lib.IntN.{ℤ, pos, natAbs, _+ℤ_}
 use Rattle.laws.specs.Pick.{pick}
 use Rattle.sensor.specs.declared.Setting.{Setting}
 use Rattle.sensor.specs.Taken.{settingOf}
-use Rattle.sensor.specs.Light.{litOf}
 use Rattle.sensor.specs.Edge.{edgeOf, threeOf, nineOf, step4}
 use Rattle.sensor.specs.Row.{passes, rowFilter, step5}
 use Rattle.sensor.specs.Shade.{valueAt, shadeOf, readingAt, shadeAt}
@@ -33,11 +32,11 @@ step5Before lit set x row =
     pick (passes (set .mode)) (rowFilter (set .kind) (step4Before lit set x row) (step4Before lit set x (belowBefore row)))
     (step4Before lit set x row)
 
-abbrev pub readingBefore : List ℕ → List ℕ → ℕ → ℕ → ℕ
-readingBefore frame regs x row = natAbs (step5Before (litOf frame (settingOf regs)) (settingOf regs) x row +ℤ pos 128)
+abbrev pub readingBefore : (ℕ → ℕ → ℕ) → List ℕ → ℕ → ℕ → ℕ
+readingBefore lit regs x row = natAbs (step5Before lit (settingOf regs) x row +ℤ pos 128)
 
-abbrev pub shadeBefore : List ℕ → List ℕ → ℕ → ℕ → ℕ
-shadeBefore frame regs x row = shadeOf regs x row (readingBefore frame regs x row)
+abbrev pub shadeBefore : (ℕ → ℕ → ℕ) → List ℕ → ℕ → ℕ → ℕ
+shadeBefore lit regs x row = shadeOf regs x row (readingBefore lit regs x row)
 
 -- ---- it is the meaning now
 
@@ -57,14 +56,14 @@ module _ (lit : ℕ → ℕ → ℕ) (set : Setting) (x : ℕ) where
       (step4-same (row + 1) (omega arith) ∙ ap (step4Before lit set x) (below-same row (omega arith)))
 
 -- a pixel has the value and the shade that it had
-pub record AsBefore (frame regs : List ℕ) (x row : ℕ) : Type 0 where
-  pub value : readingAt frame regs x row ≡ readingBefore frame regs x row
-  pub shade : shadeAt frame regs x row ≡ shadeBefore frame regs x row
+pub record AsBefore (lit : ℕ → ℕ → ℕ) (regs : List ℕ) (x row : ℕ) : Type 0 where
+  pub value : readingAt lit regs x row ≡ readingBefore lit regs x row
+  pub shade : shadeAt lit regs x row ≡ shadeBefore lit regs x row
 
--- every pixel of the picture, whatever the frame and the registers taken: picture row y is sensor row y + 8
-pub pixel-same : (frame regs : List ℕ) (x y : ℕ) → y < 112 → AsBefore frame regs x (y + 8)
+-- every pixel of the picture, whatever the lit values and the registers taken: picture row y is sensor row y + 8
+pub pixel-same : (lit : ℕ → ℕ → ℕ) (regs : List ℕ) (x y : ℕ) → y < 112 → AsBefore lit regs x (y + 8)
 unfolding valueAt shadeAt
-pixel-same frame regs x y h =
-    let e : readingAt frame regs x (y + 8) ≡ readingBefore frame regs x (y + 8)
-    = ap (λ z. natAbs (z +ℤ pos 128)) (step5-same (litOf frame (settingOf regs)) (settingOf regs) x (y + 8) (omega arith)) in
+pixel-same lit regs x y h =
+    let e : readingAt lit regs x (y + 8) ≡ readingBefore lit regs x (y + 8)
+    = ap (λ z. natAbs (z +ℤ pos 128)) (step5-same lit (settingOf regs) x (y + 8) (omega arith)) in
     record { value = e; shade = ap (shadeOf regs x (y + 8)) e }

@@ -18,7 +18,7 @@ use Rattle.laws.proofs.Pick.{pick-ind, never}
 use Rattle.laws.proofs.Signed.{sub-ind, abs-mag}
 use Rattle.sensor.specs.declared.Setting.{Setting}
 use Rattle.sensor.specs.Taken.{exposureOf, alphas, quartersOf, settingOf, Sane}
-use Rattle.sensor.specs.Light.{adaptedZ, exposed, turned, lightOf, litOf}
+use Rattle.sensor.specs.Light.{adaptedZ, exposed, turned, lightOf}
 use Rattle.sensor.specs.Edge.{between, held, nine, Small, mode2, mode3, modeC, modeD, modeE, modeF, edgeOf, isPlain, signedAt, threeOf, nineOf, step4}
 use Rattle.sensor.specs.Row.{passes, rowFilter, step5}
 use Rattle.sensor.specs.Shade.{valueAt, element, shadeOf, shadeAt}
@@ -58,10 +58,6 @@ adapted-byte v h =
 pub light-small : (set : Setting) (v : ℕ) → lightOf set v < 256
 unfolding lightOf turned exposed
 light-small set v = pick-ind (λ n. n < 256) (set .inverted) (λ e. omega arith) (λ e. omega arith)
-
-pub lit-small : (frame : List ℕ) (set : Setting) (x row : ℕ) → litOf frame set x row < 256
-unfolding litOf
-lit-small frame set x row = light-small set _
 
 -- ---- what the registers ask
 
@@ -163,9 +159,9 @@ four false true c = lit< tt
 four false false true = lit< tt
 four false false false = lit< tt
 
-pub shade-small : (frame regs : List ℕ) (x row : ℕ) → shadeAt frame regs x row < 4
+pub shade-small : (lit : ℕ → ℕ → ℕ) (regs : List ℕ) (x row : ℕ) → shadeAt lit regs x row < 4
 unfolding shadeAt shadeOf
-shade-small frame regs x row =
-    let v = valueAt (litOf frame (settingOf regs)) (settingOf regs) x row in
+shade-small lit regs x row =
+    let v = valueAt lit (settingOf regs) x row in
     let e = element x row in
     four (ltb v (getD regs e 0)) (ltb v (getD regs (e + 1) 0)) (ltb v (getD regs (e + 2) 0))

@@ -1,11 +1,11 @@
-// From light to shade, steps 1 to 6: one pixel's value and shade from a frame and the registers taken.
+// From light to shade, steps 1 to 6: the light of an image, and one pixel's value and shade from a store of lit values and the registers taken.
 ghost use mathlib.Core.Path.{_≡_};
 ghost use mathlib.Core.List.{List};
 ghost use Prim.Native.Nat.{ℕ, _+_, _-_, _/_, _%_, _<_, _≤_, min};
 ghost use lib.IntN.{natAbs};
 ghost use lib.ListN.{length, getD};
 ghost use Rattle.sensor.specs.Taken.{exposureOf, alphas, Sane, Asked};
-ghost use Rattle.sensor.specs.Light.{Inside, adapted, exposed, turned, lightOf, litOf};
+ghost use Rattle.sensor.specs.Light.{Inside, adapted, exposed, turned, lightOf, lightFrame, byteAt};
 ghost use Rattle.sensor.specs.Edge.{held, Small, acrossOf, uprightOf, aroundOf, enhanced, extracted, mode2, mode3, modeC, modeD, modeE, modeF, edgeOf, isPlain, leftOf, rightOf, signedAt, threeOf, nineOf, step4};
 ghost use Rattle.sensor.specs.Row.{passes, step5};
 ghost use Rattle.sensor.specs.Shade.{valueAt, shadeOf, pixelAt};
@@ -95,6 +95,17 @@ pub fn light(set: Setting, v: u8) -> u8
     turn(set.inverted, expose(set.exposure, adapt(v)))
 }
 
+// The light of a whole image: steps 1 to 3 of each pixel, before 128 is subtracted.
+pub fn light_frame(image: &[u8], set: Setting, store: &mut [u8])
+    requires { ⌜ (length (now store) ≡ 16384) × (length (now image) ≡ 16384) ⌝ }
+    requires { ⌜ Sane set ⌝ }
+    ensures { λ _. ⌜ now (store .exit) ≡ lightFrame (now (image .entry)) set ⌝ }
+{
+    for i in 0..16384 {
+        store[i] = light(set, image[i]);
+    }
+}
+
 // The columns beside one; beyond the left and the right edge of the sensor the edge is repeated.
 fn left(x: usize) -> usize
     ensures { λ r. ⌜ r ≡ leftOf x ⌝ }
@@ -115,38 +126,35 @@ fn right(x: usize) -> usize
     127
 }
 
-// The lit value at a column and a row, less 128: rows 7 to 121 are all that is asked for.
-pub fn signed_at(frame: &[u8], set: Setting, x: usize, row: usize) -> i32
-    requires { ⌜ Inside (length (now frame)) x row 7 121 ⌝ }
-    requires { ⌜ Sane set ⌝ }
-    ensures { λ r. ⌜ r ≡ signedAt (litOf (now (frame .entry)) set) x row ⌝ }
+// The lit value at a column and a row of the store, less 128: rows 7 to 121 are all that is asked for.
+pub fn signed_at(store: &[u8], x: usize, row: usize) -> i32
+    requires { ⌜ Inside (length (now store)) x row 7 121 ⌝ }
+    ensures { λ r. ⌜ r ≡ signedAt (byteAt (now (store .entry))) x row ⌝ }
 {
-    light(set, frame[row * 128 + x]) as i32 - 128
+    store[row * 128 + x] as i32 - 128
 }
 
 // The three signed values around a column of a row.
-fn three(frame: &[u8], set: Setting, x: usize, row: usize) -> [i32; 3]
-    requires { ⌜ Inside (length (now frame)) x row 7 121 ⌝ }
-    requires { ⌜ Sane set ⌝ }
-    ensures { λ r. ⌜ r ≡ threeOf (litOf (now (frame .entry)) set) x row ⌝ }
+fn three(store: &[u8], x: usize, row: usize) -> [i32; 3]
+    requires { ⌜ Inside (length (now store)) x row 7 121 ⌝ }
+    ensures { λ r. ⌜ r ≡ threeOf (byteAt (now (store .entry))) x row ⌝ }
 {
     [
-        signed_at(frame, set, left(x), row),
-        signed_at(frame, set, x, row),
-        signed_at(frame, set, right(x), row),
+        signed_at(store, left(x), row),
+        signed_at(store, x, row),
+        signed_at(store, right(x), row),
     ]
 }
 
 // The nine signed values around a pixel, three rows of three: of a pixel of the picture, or of the one below it.
-pub fn nine(frame: &[u8], set: Setting, x: usize, row: usize) -> [[i32; 3]; 3]
-    requires { ⌜ Inside (length (now frame)) x row 8 120 ⌝ }
-    requires { ⌜ Sane set ⌝ }
-    ensures { λ r. ⌜ r ≡ nineOf (litOf (now (frame .entry)) set) x row ⌝ }
+pub fn nine(store: &[u8], x: usize, row: usize) -> [[i32; 3]; 3]
+    requires { ⌜ Inside (length (now store)) x row 8 120 ⌝ }
+    ensures { λ r. ⌜ r ≡ nineOf (byteAt (now (store .entry))) x row ⌝ }
 {
     [
-        three(frame, set, x, row - 1),
-        three(frame, set, x, row),
-        three(frame, set, x, row + 1),
+        three(store, x, row - 1),
+        three(store, x, row),
+        three(store, x, row + 1),
     ]
 }
 
@@ -278,19 +286,19 @@ fn plain(mode: u8) -> bool
 }
 
 // The step 4 value of a pixel. The nine values are worked out only where a filter asks for them.
-pub fn step_4(frame: &[u8], set: Setting, x: usize, row: usize) -> i32
-    requires { ⌜ Inside (length (now frame)) x row 8 120 ⌝ }
+pub fn step_4(store: &[u8], set: Setting, x: usize, row: usize) -> i32
+    requires { ⌜ Inside (length (now store)) x row 8 120 ⌝ }
     requires { ⌜ Sane set ⌝ }
-    ensures { λ r. ⌜ r ≡ step4 (litOf (now (frame .entry)) set) set x row ⌝ }
+    ensures { λ r. ⌜ r ≡ step4 (byteAt (now (store .entry))) set x row ⌝ }
 {
     let mode = set.mode;
     if mode == 1 {
         return 0;
     }
     if plain(mode) {
-        return signed_at(frame, set, x, row);
+        return signed_at(store, x, row);
     }
-    edge(mode, set.quarters, nine(frame, set, x, row))
+    edge(mode, set.quarters, nine(store, x, row))
 }
 
 // Modes 0, 2 and 3 pass the 1-D filter.
@@ -307,12 +315,12 @@ fn passing(mode: u8) -> bool
 }
 
 // Step 5: what its kind makes of the value and, where it asks for it, of the one a row below.
-pub fn step_5(frame: &[u8], set: Setting, x: usize, row: usize) -> i32
-    requires { ⌜ Inside (length (now frame)) x row 8 119 ⌝ }
+pub fn step_5(store: &[u8], set: Setting, x: usize, row: usize) -> i32
+    requires { ⌜ Inside (length (now store)) x row 8 119 ⌝ }
     requires { ⌜ Sane set ⌝ }
-    ensures { λ r. ⌜ r ≡ step5 (litOf (now (frame .entry)) set) set x row ⌝ }
+    ensures { λ r. ⌜ r ≡ step5 (byteAt (now (store .entry))) set x row ⌝ }
 {
-    let p = step_4(frame, set, x, row);
+    let p = step_4(store, set, x, row);
     if !passing(set.mode) {
         return p;
     }
@@ -323,16 +331,16 @@ pub fn step_5(frame: &[u8], set: Setting, x: usize, row: usize) -> i32
     if kind == 1 {
         return hold(p);
     }
-    hold(p - step_4(frame, set, x, row + 1))
+    hold(p - step_4(store, set, x, row + 1))
 }
 
 // The pixel's value, 0 to 255.
-pub fn value(frame: &[u8], set: Setting, x: usize, row: usize) -> u8
-    requires { ⌜ Inside (length (now frame)) x row 8 119 ⌝ }
+pub fn value(store: &[u8], set: Setting, x: usize, row: usize) -> u8
+    requires { ⌜ Inside (length (now store)) x row 8 119 ⌝ }
     requires { ⌜ Sane set ⌝ }
-    ensures { λ r. ⌜ r ≡ valueAt (litOf (now (frame .entry)) set) set x row ⌝ }
+    ensures { λ r. ⌜ r ≡ valueAt (byteAt (now (store .entry))) set x row ⌝ }
 {
-    (step_5(frame, set, x, row) + 128) as u8
+    (step_5(store, set, x, row) + 128) as u8
 }
 
 // Step 6: the shade of a value, by the matrix's element.
@@ -359,12 +367,12 @@ pub struct Pixel {
 }
 
 // The pixel at a column and a row. `set` is what `regs` ask.
-pub fn pixel_at(frame: &[u8], set: Setting, regs: &[u8; 54], x: usize, row: usize) -> Pixel
-    requires { ⌜ Inside (length (now frame)) x row 8 119 ⌝ }
+pub fn pixel_at(store: &[u8], set: Setting, regs: &[u8; 54], x: usize, row: usize) -> Pixel
+    requires { ⌜ Inside (length (now store)) x row 8 119 ⌝ }
     requires { ⌜ Asked set (now regs) ⌝ }
-    ensures { λ r. ⌜ r ≡ pixelAt (now (frame .entry)) (now (regs .entry)) x row ⌝ }
+    ensures { λ r. ⌜ r ≡ pixelAt (byteAt (now (store .entry))) (now (regs .entry)) x row ⌝ }
 {
-    let v = value(frame, set, x, row);
+    let v = value(store, set, x, row);
     Pixel {
         value: v,
         shade: shade(regs, x, row, v),

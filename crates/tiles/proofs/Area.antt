@@ -12,8 +12,9 @@ use borrow.Author.Tests.{eq-eqb, ne-eqb}
 use Rattle.laws.specs.Pick.{pick}
 use Rattle.laws.specs.Bits.{bitOf}
 use Rattle.laws.proofs.Order.{split}
-use Rattle.sensor.specs.Light.{byteAt}
-use Rattle.sensor.proofs.Rows.{rows}
+use Rattle.sensor.specs.Taken.{settingOf}
+use Rattle.sensor.specs.Light.{byteAt, litOf}
+use Rattle.sensor.proofs.Rows as sensed
 use Rattle.tiles.specs.Tiles.{place, shadeIn, areaOf, Bytes}
 use Rattle.laws.specs.Lists.{listed, packed}
 use Rattle.tiles.specs.Picture.{pictureShade, lowByte, highByte, pictureByte, pictureOf}
@@ -33,9 +34,9 @@ abbrev pub byteOf : (ℕ → ℕ → ℕ) → ℕ → ℕ
 byteOf s i =
     pick (eqb (i % 2) 0) (packed (λ b. s (8 * columnOf i + b) (rowOf i) % 2) 8) (packed (λ b. s (8 * columnOf i + b) (rowOf i) / 2) 8)
 
-pub byteOf-picture : (frame regs : List ℕ) (i : ℕ) → pictureByte frame regs i ≡ byteOf (pictureShade frame regs) i
+pub byteOf-picture : (lit : ℕ → ℕ → ℕ) (regs : List ℕ) (i : ℕ) → pictureByte lit regs i ≡ byteOf (pictureShade lit regs) i
 unfolding pictureByte lowByte highByte
-byteOf-picture frame regs i = refl
+byteOf-picture lit regs i = refl
 
 -- it turns on the eight pixels alone
 pub byteOf-ext : (s t : ℕ → ℕ → ℕ) (i : ℕ) → ((b : ℕ) → b < 8 → s (8 * columnOf i + b) (rowOf i) ≡ t (8 * columnOf i + b) (rowOf i)) → byteOf s i ≡ byteOf t i
@@ -132,41 +133,46 @@ pub area-ext : (ram ram′ : List ℕ) → 8192 ≤ length ram → 8192 ≤ leng
 area-ext ram ram′ l l′ b b′ e = area-shown ram l b ∙ bytes-alike _ _ e ∙ sym (area-shown ram′ l′ b′)
 
 -- the picture afresh, from its shades
-pub picture-shown : (frame regs : List ℕ) → pictureOf frame regs ≡ listed (byteOf (pictureShade frame regs)) 3584
+pub picture-shown : (lit : ℕ → ℕ → ℕ) (regs : List ℕ) → pictureOf lit regs ≡ listed (byteOf (pictureShade lit regs)) 3584
 unfolding pictureOf
-picture-shown frame regs = listed-ext _ _ 3584 (λ i h. byteOf-picture frame regs i)
+picture-shown lit regs = listed-ext _ _ 3584 (λ i h. byteOf-picture lit regs i)
 
-pub picture-same : (f g regs : List ℕ) → Alike (pictureShade f regs) (pictureShade g regs) → pictureOf f regs ≡ pictureOf g regs
-picture-same f g regs e = picture-shown f regs ∙ bytes-alike _ _ e ∙ sym (picture-shown g regs)
+pub picture-same : (lit mit : ℕ → ℕ → ℕ) (regs : List ℕ) → Alike (pictureShade lit regs) (pictureShade mit regs) → pictureOf lit regs ≡ pictureOf mit regs
+picture-same lit mit regs e = picture-shown lit regs ∙ bytes-alike _ _ e ∙ sym (picture-shown mit regs)
 
--- Two images that agree in rows 7 to 120 give the same picture under the same taken registers
-pub picture-rows : (f g regs : List ℕ) → ((x row : ℕ) → x < 128 → 7 ≤ row → row ≤ 120 → byteAt f x row ≡ byteAt g x row) → pictureOf f regs ≡ pictureOf g regs
-picture-rows f g regs alike =
-    picture-same f g regs (λ x y hx hy. rows f g alike regs x (y + 8) hx (omega arith) (omega arith) .shade)
+-- Lit values that agree in rows 7 to 120 give the same picture under the same taken registers
+pub picture-lit : {lit mit : ℕ → ℕ → ℕ} → sensed.Alike lit mit → (regs : List ℕ) → pictureOf lit regs ≡ pictureOf mit regs
+picture-lit {lit} {mit} alike regs =
+    picture-same lit mit regs (λ x y hx hy. sensed.rows alike regs x (y + 8) hx (omega arith) (omega arith) .shade)
+
+-- and so do two images that agree there
+pub picture-rows : (f g regs : List ℕ) → ((x row : ℕ) → x < 128 → 7 ≤ row → row ≤ 120 → byteAt f x row ≡ byteAt g x row)
+    → pictureOf (litOf f (settingOf regs)) regs ≡ pictureOf (litOf g (settingOf regs)) regs
+picture-rows f g regs alike = picture-lit (sensed.lit-rows f g alike (settingOf regs)) regs
 
 -- a RAM that shows the picture's shades has the picture in its area
-pub area-whole : (frame regs ram : List ℕ) → 8192 ≤ length ram → Bytes ram → Alike (shadeIn ram) (pictureShade frame regs) → areaOf ram ≡ pictureOf frame regs
-area-whole frame regs ram long bytes e = area-shown ram long bytes ∙ bytes-alike _ _ e ∙ sym (picture-shown frame regs)
+pub area-whole : (lit : ℕ → ℕ → ℕ) (regs ram : List ℕ) → 8192 ≤ length ram → Bytes ram → Alike (shadeIn ram) (pictureShade lit regs) → areaOf ram ≡ pictureOf lit regs
+area-whole lit regs ram long bytes e = area-shown ram long bytes ∙ bytes-alike _ _ e ∙ sym (picture-shown lit regs)
 
 -- all the pixels put are the picture
-pub pixels-whole : (frame regs ram : List ℕ) → 8192 ≤ length ram → Bytes ram → areaOf (pixels frame regs 0 14336 ram) ≡ pictureOf frame regs
-pixels-whole frame regs ram long bytes =
-    area-whole frame regs (pixels frame regs 0 14336 ram) (rw (pixels-length frame regs 0 14336 ram) long)
-    (pixels-bytes frame regs 0 14336 ram (omega arith) long bytes)
+pub pixels-whole : (lit : ℕ → ℕ → ℕ) (regs ram : List ℕ) → 8192 ≤ length ram → Bytes ram → areaOf (pixels lit regs 0 14336 ram) ≡ pictureOf lit regs
+pixels-whole lit regs ram long bytes =
+    area-whole lit regs (pixels lit regs 0 14336 ram) (rw (pixels-length lit regs 0 14336 ram) long)
+    (pixels-bytes lit regs 0 14336 ram (omega arith) long bytes)
     (λ x y hx hy.
     let a : (y * 128 + x) % 128 ≡ x = omega arith in
     let b : (y * 128 + x) / 128 ≡ y = omega arith in
-    rw (a, b) at (pixels-passed frame regs 0 14336 ram (omega arith) long (y * 128 + x) (omega arith) (omega arith)))
+    rw (a, b) at (pixels-passed lit regs 0 14336 ram (omega arith) long (y * 128 + x) (omega arith) (omega arith)))
 
 -- ---- the picture written in order, two bytes at a time
 
-picture-low : (frame regs : List ℕ) (i : ℕ) → i % 2 ≡ 0 → pictureByte frame regs i ≡ lowByte frame regs (columnOf i) (rowOf i)
+picture-low : (lit : ℕ → ℕ → ℕ) (regs : List ℕ) (i : ℕ) → i % 2 ≡ 0 → pictureByte lit regs i ≡ lowByte lit regs (columnOf i) (rowOf i)
 unfolding pictureByte
-picture-low frame regs i e = simp (eq-eqb (i % 2) 0 e)
+picture-low lit regs i e = simp (eq-eqb (i % 2) 0 e)
 
-picture-high : (frame regs : List ℕ) (i : ℕ) → i % 2 ≡ 0 → pictureByte frame regs (i + 1) ≡ highByte frame regs (columnOf i) (rowOf i)
+picture-high : (lit : ℕ → ℕ → ℕ) (regs : List ℕ) (i : ℕ) → i % 2 ≡ 0 → pictureByte lit regs (i + 1) ≡ highByte lit regs (columnOf i) (rowOf i)
 unfolding pictureByte
-picture-high frame regs i e =
+picture-high lit regs i e =
     let a : (i + 1) / 2 ≡ i / 2 = omega arith in
     let b : (i + 1) / 16 ≡ i / 16 = sym (div-div-eq-div-mul (i + 1) 2 8) ∙ rw a (div-div-eq-div-mul i 2 8) in
     let c : (i + 1) / 256 ≡ i / 256 = sym (div-div-eq-div-mul (i + 1) 2 128) ∙ rw a (div-div-eq-div-mul i 2 128) in
@@ -183,11 +189,11 @@ two-more f l i a b h all p q k m =
     no : i ≤ k → (k ≡ i → ⊥) → (k ≡ i + 1 → ⊥) → ⊥
     no z x y = split i k (λ s. y (omega arith)) (λ s. x (omega arith))
 
-pub picture-more : (frame regs l : List ℕ) (i a b : ℕ) → i % 2 ≡ 0 → i + 1 < length l → ((k : ℕ) → k < i → getD l k 0 ≡ pictureByte frame regs k)
-    → a ≡ lowByte frame regs (columnOf i) (rowOf i) → b ≡ highByte frame regs (columnOf i) (rowOf i) → (k : ℕ) → k < i + 2 → getD (stored l i a b) k 0 ≡ pictureByte frame regs k
-picture-more frame regs l i a b e h all p q =
-    two-more (pictureByte frame regs) l i a b h all (p ∙ sym (picture-low frame regs i e)) (q ∙ sym (picture-high frame regs i e))
+pub picture-more : (lit : ℕ → ℕ → ℕ) (regs l : List ℕ) (i a b : ℕ) → i % 2 ≡ 0 → i + 1 < length l → ((k : ℕ) → k < i → getD l k 0 ≡ pictureByte lit regs k)
+    → a ≡ lowByte lit regs (columnOf i) (rowOf i) → b ≡ highByte lit regs (columnOf i) (rowOf i) → (k : ℕ) → k < i + 2 → getD (stored l i a b) k 0 ≡ pictureByte lit regs k
+picture-more lit regs l i a b e h all p q =
+    two-more (pictureByte lit regs) l i a b h all (p ∙ sym (picture-low lit regs i e)) (q ∙ sym (picture-high lit regs i e))
 
-pub picture-made : (frame regs l : List ℕ) → length l ≡ 3584 → ((k : ℕ) → k < 3584 → getD l k 0 ≡ pictureByte frame regs k) → l ≡ pictureOf frame regs
+pub picture-made : (lit : ℕ → ℕ → ℕ) (regs l : List ℕ) → length l ≡ 3584 → ((k : ℕ) → k < 3584 → getD l k 0 ≡ pictureByte lit regs k) → l ≡ pictureOf lit regs
 unfolding pictureOf
-picture-made frame regs l e all = listed-of l 3584 e ∙ listed-ext _ (pictureByte frame regs) 3584 all
+picture-made lit regs l e all = listed-of l 3584 e ∙ listed-ext _ (pictureByte lit regs) 3584 all

@@ -8,10 +8,10 @@ use Rattle.tiles.specs.Picture.{pictureOf}
 use Rattle.tiles.proofs.Area.{byteOf, bytes-alike, picture-shown}
 
 -- the picture of the old meaning, which is for this statement alone
-abbrev pub pictureBefore : List ℕ → List ℕ → List ℕ
-pictureBefore frame regs = listed (byteOf (λ x y. shadeBefore frame regs x (y + 8))) 3584
+abbrev pub pictureBefore : (ℕ → ℕ → ℕ) → List ℕ → List ℕ
+pictureBefore lit regs = listed (byteOf (λ x y. shadeBefore lit regs x (y + 8))) 3584
 
--- whatever the frame and the registers taken
-pub picture-same-as-before : (frame regs : List ℕ) → pictureOf frame regs ≡ pictureBefore frame regs
-picture-same-as-before frame regs =
-    picture-shown frame regs ∙ bytes-alike _ _ (λ x y hx hy. pixel-same frame regs x y hy .shade)
+-- whatever the lit values and the registers taken
+pub picture-same-as-before : (lit : ℕ → ℕ → ℕ) (regs : List ℕ) → pictureOf lit regs ≡ pictureBefore lit regs
+picture-same-as-before lit regs =
+    picture-shown lit regs ∙ bytes-alike _ _ (λ x y hx hy. pixel-same lit regs x y hy .shade)

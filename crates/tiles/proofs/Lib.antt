@@ -3,4 +3,5 @@ pub mod Run
 pub mod Pixels
 pub mod Area
 pub mod Eight
+pub mod Lit
 pub mod EdgeRows

@@ -20,12 +20,12 @@ use Rattle.tiles.proofs.Run.{put-length, pixels-suc}
 -- ---- shades
 
 -- the shade of a pixel that was made
-pub shade-same : (frame regs : List ℕ) (x row : ℕ) (p : Pixel) → p ≡ pixelAt frame regs x row → p .shade ≡ shadeAt frame regs x row
-shade-same frame regs x row p e = ap (λ (p : Pixel). p .shade) e
+pub shade-same : (lit : ℕ → ℕ → ℕ) (regs : List ℕ) (x row : ℕ) (p : Pixel) → p ≡ pixelAt lit regs x row → p .shade ≡ shadeAt lit regs x row
+shade-same lit regs x row p e = ap (λ (p : Pixel). p .shade) e
 
 -- a shade is one of four
-pub shade-bound : (frame regs : List ℕ) (x row r : ℕ) → r ≡ shadeAt frame regs x row → r < 4
-shade-bound frame regs x row r e = rw e (shade-small frame regs x row)
+pub shade-bound : (lit : ℕ → ℕ → ℕ) (regs : List ℕ) (x row r : ℕ) → r ≡ shadeAt lit regs x row → r < 4
+shade-bound lit regs x row r e = rw e (shade-small lit regs x row)
 
 -- ---- one pixel, byte by byte
 
@@ -114,74 +114,74 @@ module _ (ram : List ℕ) (x y s : ℕ) (hx : x < 128) (hy : y < 112) where
 
 -- ---- a range of pixels
 
-module _ (frame regs : List ℕ) where
+module _ (lit : ℕ → ℕ → ℕ) (regs : List ℕ) where
   -- no pixel more
-  step-out : (from k : ℕ) (ram : List ℕ) → k < from → pixels frame regs from (suc k) ram ≡ ram
+  step-out : (from k : ℕ) (ram : List ℕ) → k < from → pixels lit regs from (suc k) ram ≡ ram
   unfolding pixels
   step-out from k ram h = simp (lt-leb from k h)
 
   -- what holds of the RAM and is kept by each pixel of the range holds after it
-  pub pixels-keep : (P : List ℕ → Type 0) (from to : ℕ) (ram : List ℕ) → ((j : ℕ) (r : List ℕ) → from ≤ j → j < to → P r → P (putNth frame regs j r)) → P ram → P (pixels frame regs from to ram)
+  pub pixels-keep : (P : List ℕ → Type 0) (from to : ℕ) (ram : List ℕ) → ((j : ℕ) (r : List ℕ) → from ≤ j → j < to → P r → P (putNth lit regs j r)) → P ram → P (pixels lit regs from to ram)
   unfolding pixels
   pixels-keep P from zero ram keep p = p
   pixels-keep P from (suc k) ram keep p =
       split k from
       (λ out. rw (step-out from k ram out) p)
-      (λ on. rw (pixels-suc frame regs from k ram on) (keep k _ on (omega arith) (pixels-keep P from k ram (λ j r a b. keep j r a (omega arith)) p)))
+      (λ on. rw (pixels-suc lit regs from k ram on) (keep k _ on (omega arith) (pixels-keep P from k ram (λ j r a b. keep j r a (omega arith)) p)))
 
   -- pixel j put, by the laws on one pixel
   module _ (j : ℕ) (r : List ℕ) where
-    nth-length : length (putNth frame regs j r) ≡ length r
+    nth-length : length (putNth lit regs j r) ≡ length r
     unfolding putNth
-    nth-length = put-length r (j % 128) (j / 128) (pictureShade frame regs (j % 128) (j / 128))
+    nth-length = put-length r (j % 128) (j / 128) (pictureShade lit regs (j % 128) (j / 128))
 
     module _ (h : j < 14336) where
-      nth-outside : (i : ℕ) → (0x100 ≤ i → i < 0xF00 → ⊥) → getD (putNth frame regs j r) i 0 ≡ getD r i 0
+      nth-outside : (i : ℕ) → (0x100 ≤ i → i < 0xF00 → ⊥) → getD (putNth lit regs j r) i 0 ≡ getD r i 0
       unfolding putNth
       nth-outside = put-outside r (j % 128) (j / 128) _ (omega arith) (omega arith)
 
       module _ (long : 8192 ≤ length r) where
-        small : pictureShade frame regs (j % 128) (j / 128) < 4
-        small = shade-small frame regs (j % 128) (j / 128 + 8)
+        small : pictureShade lit regs (j % 128) (j / 128) < 4
+        small = shade-small lit regs (j % 128) (j / 128 + 8)
 
-        nth-bytes : Bytes r → Bytes (putNth frame regs j r)
+        nth-bytes : Bytes r → Bytes (putNth lit regs j r)
         unfolding putNth
         nth-bytes = put-bytes r (j % 128) (j / 128) _ (omega arith) (omega arith) small long
 
-        nth-same : shadeIn (putNth frame regs j r) (j % 128) (j / 128) ≡ pictureShade frame regs (j % 128) (j / 128)
+        nth-same : shadeIn (putNth lit regs j r) (j % 128) (j / 128) ≡ pictureShade lit regs (j % 128) (j / 128)
         unfolding putNth
         nth-same = put-same r (j % 128) (j / 128) _ (omega arith) (omega arith) small long
 
-        nth-other : (i : ℕ) → (i ≡ j → ⊥) → shadeIn (putNth frame regs j r) (i % 128) (i / 128) ≡ shadeIn r (i % 128) (i / 128)
+        nth-other : (i : ℕ) → (i ≡ j → ⊥) → shadeIn (putNth lit regs j r) (i % 128) (i / 128) ≡ shadeIn r (i % 128) (i / 128)
         unfolding putNth
         nth-other i ne =
             put-other r (j % 128) (j / 128) _ (omega arith) (omega arith) small long (i % 128) (i / 128) (omega arith) (λ p q. ne (omega arith))
 
   module _ (from to : ℕ) (ram : List ℕ) where
-    pub pixels-length : length (pixels frame regs from to ram) ≡ length ram
+    pub pixels-length : length (pixels lit regs from to ram) ≡ length ram
     pixels-length =
         pixels-keep (λ r. length r ≡ length ram) from to ram (λ j r a b e. nth-length j r ∙ e) refl
 
     module _ (most : to ≤ 14336) where
       -- the bytes outside the area
-      pub pixels-outside : (i : ℕ) → (0x100 ≤ i → i < 0xF00 → ⊥) → getD (pixels frame regs from to ram) i 0 ≡ getD ram i 0
+      pub pixels-outside : (i : ℕ) → (0x100 ≤ i → i < 0xF00 → ⊥) → getD (pixels lit regs from to ram) i 0 ≡ getD ram i 0
       pixels-outside i out =
           pixels-keep (λ r. getD r i 0 ≡ getD ram i 0) from to ram (λ j r a b e. nth-outside j r (omega arith) i out ∙ e) refl
 
       module _ (long : 8192 ≤ length ram) where
         -- what each pixel keeps of a RAM of this length
-        keep-long : (P : List ℕ → Type 0) → ((j : ℕ) (r : List ℕ) → from ≤ j → j < to → 8192 ≤ length r → P r → P (putNth frame regs j r)) → P ram → P (pixels frame regs from to ram)
+        keep-long : (P : List ℕ → Type 0) → ((j : ℕ) (r : List ℕ) → from ≤ j → j < to → 8192 ≤ length r → P r → P (putNth lit regs j r)) → P ram → P (pixels lit regs from to ram)
         keep-long P keep p =
             pixels-keep (λ r. (8192 ≤ length r) × P r) from to ram
             (λ j r a b e. (rw (nth-length j r) (e .0), keep j r a b (e .0) (e .1)))
             (long, p)
             .1
 
-        pub pixels-bytes : Bytes ram → Bytes (pixels frame regs from to ram)
+        pub pixels-bytes : Bytes ram → Bytes (pixels lit regs from to ram)
         pixels-bytes = keep-long Bytes (λ j r a b l. nth-bytes j r (omega arith) l)
 
         -- the pixels that are not of the range
-        pub pixels-others : (j : ℕ) → (from ≤ j → j < to → ⊥) → shadeIn (pixels frame regs from to ram) (j % 128) (j / 128) ≡ shadeIn ram (j % 128) (j / 128)
+        pub pixels-others : (j : ℕ) → (from ≤ j → j < to → ⊥) → shadeIn (pixels lit regs from to ram) (j % 128) (j / 128) ≡ shadeIn ram (j % 128) (j / 128)
         pixels-others i out =
             keep-long (λ r. shadeIn r (i % 128) (i / 128) ≡ shadeIn ram (i % 128) (i / 128))
             (λ j r a b l e. nth-other j r (omega arith) l i (λ q. out (omega arith) (omega arith)) ∙ e)
@@ -189,11 +189,11 @@ module _ (frame regs : List ℕ) where
 
   -- the pixels of the range
   pub pixels-passed : (from to : ℕ) (ram : List ℕ) → to ≤ 14336 → 8192 ≤ length ram → (j : ℕ) → from ≤ j → j < to
-      → shadeIn (pixels frame regs from to ram) (j % 128) (j / 128) ≡ pictureShade frame regs (j % 128) (j / 128)
+      → shadeIn (pixels lit regs from to ram) (j % 128) (j / 128) ≡ pictureShade lit regs (j % 128) (j / 128)
   pixels-passed from zero ram most long j a b = absurd (omega arith)
   pixels-passed from (suc k) ram most long j a b =
-      let l : 8192 ≤ length (pixels frame regs from k ram) = rw (pixels-length from k ram) long in
-      rw (pixels-suc frame regs from k ram (omega arith))
+      let l : 8192 ≤ length (pixels lit regs from k ram) = rw (pixels-length from k ram) long in
+      rw (pixels-suc lit regs from k ram (omega arith))
       (split j k
-      (λ before. nth-other k (pixels frame regs from k ram) (omega arith) l j (λ e. omega arith) ∙ pixels-passed from k ram (omega arith) long j a before)
-      (λ here. let e : j ≡ k = omega arith in rw e (nth-same k (pixels frame regs from k ram) (omega arith) l)))
+      (λ before. nth-other k (pixels lit regs from k ram) (omega arith) l j (λ e. omega arith) ∙ pixels-passed from k ram (omega arith) long j a before)
+      (λ here. let e : j ≡ k = omega arith in rw e (nth-same k (pixels lit regs from k ram) (omega arith) l)))

@@ -1,4 +1,4 @@
--- Laws of a range of the picture's pixels, of one frame and the registers taken. Assumes nothing.
+-- Laws of a range of the picture's pixels, of one lit and the registers taken. Assumes nothing.
 use mathlib.Core.Path.{_≡_, refl, sym, ap, _∙_}
 use mathlib.Core.List.{List}
 use Prim.Native.Nat.{ℕ, zero, suc, _+_, _≤_}
@@ -14,25 +14,25 @@ pub put-length : (ram : List ℕ) (x y shade : ℕ) → length (putAt ram x y sh
 unfolding putAt
 put-length ram x y shade = simp length-set
 
-module _ (frame regs : List ℕ) where
-  pub pixels-none : (from : ℕ) (ram : List ℕ) → pixels frame regs from from ram ≡ ram
+module _ (lit : ℕ → ℕ → ℕ) (regs : List ℕ) where
+  pub pixels-none : (from : ℕ) (ram : List ℕ) → pixels lit regs from from ram ≡ ram
   unfolding pixels
   pixels-none zero ram = refl
   pixels-none (suc j) ram = simp (lt-leb (suc j) j (omega arith))
 
-  pub pixels-suc : (from j : ℕ) (ram : List ℕ) → from ≤ j → pixels frame regs from (suc j) ram ≡ putNth frame regs j (pixels frame regs from j ram)
+  pub pixels-suc : (from j : ℕ) (ram : List ℕ) → from ≤ j → pixels lit regs from (suc j) ram ≡ putNth lit regs j (pixels lit regs from j ram)
   unfolding pixels
   pixels-suc from j ram h = simp (le-leb from j h)
 
-  pub pixels-more : (from j : ℕ) (ram : List ℕ) → from ≤ j → pixels frame regs from (j + 1) ram ≡ putNth frame regs j (pixels frame regs from j ram)
+  pub pixels-more : (from j : ℕ) (ram : List ℕ) → from ≤ j → pixels lit regs from (j + 1) ram ≡ putNth lit regs j (pixels lit regs from j ram)
   pixels-more from j ram h = simp add-one (pixels-suc from j ram h)
 
   -- one pixel
-  pub pixels-one : (j : ℕ) (ram : List ℕ) → pixels frame regs j (j + 1) ram ≡ putNth frame regs j ram
-  pixels-one j ram = pixels-more j j ram (omega arith) ∙ ap (putNth frame regs j) (pixels-none j ram)
+  pub pixels-one : (j : ℕ) (ram : List ℕ) → pixels lit regs j (j + 1) ram ≡ putNth lit regs j ram
+  pixels-one j ram = pixels-more j j ram (omega arith) ∙ ap (putNth lit regs j) (pixels-none j ram)
 
   -- from..mid, and then mid..to
-  pub pixels-join : (from mid to : ℕ) (ram : List ℕ) → from ≤ mid → mid ≤ to → pixels frame regs mid to (pixels frame regs from mid ram) ≡ pixels frame regs from to ram
+  pub pixels-join : (from mid to : ℕ) (ram : List ℕ) → from ≤ mid → mid ≤ to → pixels lit regs mid to (pixels lit regs from mid ram) ≡ pixels lit regs from to ram
   pixels-join from mid zero ram low high =
       let m : mid ≡ 0 = omega arith in
       let f : from ≡ 0 = omega arith in
@@ -42,5 +42,5 @@ module _ (frame regs : List ℕ) where
       (λ last. let m : mid ≡ suc to = omega arith in rw m (pixels-none (suc to) _))
       (λ more.
       pixels-suc mid to _ more
-      ∙ ap (putNth frame regs to) (pixels-join from mid to ram low more)
+      ∙ ap (putNth lit regs to) (pixels-join from mid to ram low more)
       ∙ sym (pixels-suc from to ram (omega arith)))

@@ -7,10 +7,10 @@ use Rattle.tiles.specs.Tiles.{putAt}
 use Rattle.tiles.specs.Picture.{pictureShade}
 
 -- pixel j of the picture, row by row, put
-unfoldable pub putNth : List ℕ → List ℕ → ℕ → List ℕ → List ℕ
-putNth frame regs j ram = putAt ram (j % 128) (j / 128) (pictureShade frame regs (j % 128) (j / 128))
+unfoldable pub putNth : (ℕ → ℕ → ℕ) → List ℕ → ℕ → List ℕ → List ℕ
+putNth lit regs j ram = putAt ram (j % 128) (j / 128) (pictureShade lit regs (j % 128) (j / 128))
 
 -- the pixels from..to of the picture, in order
-unfoldable pub pixels : List ℕ → List ℕ → ℕ → ℕ → List ℕ → List ℕ
-pixels frame regs from zero ram = ram
-pixels frame regs from (suc j) ram = pick (leb from j) (putNth frame regs j (pixels frame regs from j ram)) ram
+unfoldable pub pixels : (ℕ → ℕ → ℕ) → List ℕ → ℕ → ℕ → List ℕ → List ℕ
+pixels lit regs from zero ram = ram
+pixels lit regs from (suc j) ram = pick (leb from j) (putNth lit regs j (pixels lit regs from j ram)) ram

@@ -1,11 +1,12 @@
 // Step 7 of light to shade: where a shade stands in the RAM, a range of the picture's pixels put there, and the picture afresh.
-// It knows frames, registers and RAM bytes, but neither the bus nor time.
+// It knows stores of lit values, registers and RAM bytes, but neither the bus nor time.
 use sensor::Setting;
 ghost use mathlib.Core.Path.{_≡_};
 ghost use Prim.Native.Nat.{ℕ, _+_, _*_, _/_, _%_, _<_, _≤_};
 ghost use lib.ListN.{length};
 ghost use Rattle.laws.specs.Bits.{putBit};
 ghost use Rattle.sensor.specs.Taken.{Asked};
+ghost use Rattle.sensor.specs.Light.{byteAt};
 ghost use Rattle.tiles.specs.Tiles.{putAt};
 ghost use Rattle.tiles.specs.Picture.{lowByte, highByte, pictureOf};
 ghost use Rattle.tiles.specs.Bulk.{putNth, pixels};
@@ -43,7 +44,7 @@ fn put_pixel(ram: &mut [u8], x: usize, y: usize, shade: u8)
 // Puts pixel j of the picture, row by row: picture row y is sensor row y + 8.
 fn put_nth(ram: &mut [u8], store: &[u8], set: Setting, regs: &[u8; 54], j: usize)
     requires { ⌜ (j < 14336) × (8192 ≤ length (now ram)) × (length (now store) ≡ 16384) × (Asked set (now regs)) ⌝ }
-    ensures { λ _. ⌜ now (ram .exit) ≡ putNth (now (store .entry)) (now (regs .entry)) j (now (ram .entry)) ⌝ }
+    ensures { λ _. ⌜ now (ram .exit) ≡ putNth (byteAt (now (store .entry))) (now (regs .entry)) j (now (ram .entry)) ⌝ }
 {
     let x = j % 128;
     let y = j / 128;
@@ -61,7 +62,7 @@ fn put_some(
     to: usize,
 ) -> usize
     requires { ⌜ (j < to) × (to ≤ 14336) × (8192 ≤ length (now ram)) × (length (now store) ≡ 16384) × (Asked set (now regs)) ⌝ }
-    ensures { λ r. ⌜ (now (ram .exit) ≡ pixels (now (store .entry)) (now (regs .entry)) j r (now (ram .entry))) × (j < r) × (r ≤ to) ⌝ }
+    ensures { λ r. ⌜ (now (ram .exit) ≡ pixels (byteAt (now (store .entry))) (now (regs .entry)) j r (now (ram .entry))) × (j < r) × (r ≤ to) ⌝ }
 {
     if j % 8 != 0 {
         put_nth(ram, store, set, regs, j);
@@ -85,7 +86,7 @@ pub fn put_pixels(
     to: usize,
 )
     requires { ⌜ (from ≤ to) × (to ≤ 14336) × (8192 ≤ length (now ram)) × (length (now store) ≡ 16384) × (Asked set (now regs)) ⌝ }
-    ensures { λ _. ⌜ now (ram .exit) ≡ pixels (now (store .entry)) (now (regs .entry)) from to (now (ram .entry)) ⌝ }
+    ensures { λ _. ⌜ now (ram .exit) ≡ pixels (byteAt (now (store .entry))) (now (regs .entry)) from to (now (ram .entry)) ⌝ }
 {
     let mut j = from;
     while j < to {
@@ -100,30 +101,30 @@ pub struct TileRow {
 }
 
 // The eight pixels of picture row y from column 8 * t on. `set` is what `regs` ask.
-fn tile_row(frame: &[u8], set: Setting, regs: &[u8; 54], t: usize, y: usize) -> TileRow
-    requires { ⌜ (length (now frame) ≡ 16384) × (t < 16) × (y < 112) ⌝ }
+fn tile_row(store: &[u8], set: Setting, regs: &[u8; 54], t: usize, y: usize) -> TileRow
+    requires { ⌜ (length (now store) ≡ 16384) × (t < 16) × (y < 112) ⌝ }
     requires { ⌜ Asked set (now regs) ⌝ }
-    ensures { λ r. ⌜ (r .low ≡ lowByte (now (frame .entry)) (now (regs .entry)) t y) × (r .high ≡ highByte (now (frame .entry)) (now (regs .entry)) t y) ⌝ }
+    ensures { λ r. ⌜ (r .low ≡ lowByte (byteAt (now (store .entry))) (now (regs .entry)) t y) × (r .high ≡ highByte (byteAt (now (store .entry))) (now (regs .entry)) t y) ⌝ }
 {
     let mut low: u8 = 0;
     let mut high: u8 = 0;
     for b in 0..8 {
-        let pixel = sensor::pixel_at(frame, set, regs, 8 * t + b, y + 8);
+        let pixel = sensor::pixel_at(store, set, regs, 8 * t + b, y + 8);
         low = low * 2 + pixel.shade % 2;
         high = high * 2 + pixel.shade / 2;
     }
     TileRow { low, high }
 }
 
-// The picture afresh: its bytes in order, two a turn.
-pub fn fill(frame: &[u8], set: Setting, regs: &[u8; 54], out: &mut [u8])
-    requires { ⌜ (length (now frame) ≡ 16384) × (length (now out) ≡ 3584) ⌝ }
+// The picture afresh, of a store of lit values: its bytes in order, two a turn.
+pub fn fill(store: &[u8], set: Setting, regs: &[u8; 54], out: &mut [u8])
+    requires { ⌜ (length (now store) ≡ 16384) × (length (now out) ≡ 3584) ⌝ }
     requires { ⌜ Asked set (now regs) ⌝ }
-    ensures { λ _. ⌜ now (out .exit) ≡ pictureOf (now (frame .entry)) (now (regs .entry)) ⌝ }
+    ensures { λ _. ⌜ now (out .exit) ≡ pictureOf (byteAt (now (store .entry))) (now (regs .entry)) ⌝ }
 {
     let mut i = 0;
     while i < PICTURE_SIZE {
-        let row = tile_row(frame, set, regs, i / 16 % 16, 8 * (i / 256) + i / 2 % 8);
+        let row = tile_row(store, set, regs, i / 16 % 16, 8 * (i / 256) + i / 2 % 8);
         let next = i + 1;
         out[i] = row.low;
         out[next] = row.high;
@@ -135,7 +136,7 @@ pub fn fill(frame: &[u8], set: Setting, regs: &[u8; 54], out: &mut [u8])
 fn put_row(ram: &mut [u8], store: &[u8], set: Setting, regs: &[u8; 54], j: usize)
     requires { ⌜ (8192 ≤ length (now ram)) × (length (now store) ≡ 16384) × (j % 8 ≡ 0) × (j + 8 ≤ 14336) ⌝ }
     requires { ⌜ Asked set (now regs) ⌝ }
-    ensures { λ _. ⌜ now (ram .exit) ≡ pixels (now (store .entry)) (now (regs .entry)) j (j + 8) (now (ram .entry)) ⌝ }
+    ensures { λ _. ⌜ now (ram .exit) ≡ pixels (byteAt (now (store .entry))) (now (regs .entry)) j (j + 8) (now (ram .entry)) ⌝ }
 {
     let t = j % 128 / 8;
     let y = j / 128;

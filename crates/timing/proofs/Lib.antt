@@ -2,3 +2,4 @@
 pub mod Lent
 pub mod Zeros
 pub mod Range
+pub mod Lit

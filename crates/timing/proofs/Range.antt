@@ -89,9 +89,9 @@ due-only regs k e h =
 
 -- ---- pixel k of the sensor, and pixel j of the picture
 
-module _ (frame regs : List ℕ) where
+module _ (lit : ℕ → ℕ → ℕ) (regs : List ℕ) where
   -- rows 8 to 119 of the sensor are the picture's
-  pub put-inside : (k j : ℕ) (ram : List ℕ) → k + 128 * firstRow regs ≡ j + 1024 → j < 14336 → putPixel frame regs k ram ≡ putNth frame regs j ram
+  pub put-inside : (k j : ℕ) (ram : List ℕ) → k + 128 * firstRow regs ≡ j + 1024 → j < 14336 → putPixel lit regs k ram ≡ putNth lit regs j ram
   unfolding putPixel putNth
   put-inside k j ram same most =
       let t = timed regs in
@@ -101,31 +101,31 @@ module _ (frame regs : List ℕ) where
       rw (column, row, le-leb 8 (j / 128 + 8) (omega arith), lt-ltb (j / 128 + 8) 120 (omega arith), up)
 
   -- other rows write nothing
-  pub put-above : (k : ℕ) (ram : List ℕ) → rowOf regs k < 8 → putPixel frame regs k ram ≡ ram
+  pub put-above : (k : ℕ) (ram : List ℕ) → rowOf regs k < 8 → putPixel lit regs k ram ≡ ram
   unfolding putPixel
   put-above k ram h = simp (lt-leb 8 (rowOf regs k) h)
 
-  pub put-below : (k : ℕ) (ram : List ℕ) → 120 ≤ rowOf regs k → putPixel frame regs k ram ≡ ram
+  pub put-below : (k : ℕ) (ram : List ℕ) → 120 ≤ rowOf regs k → putPixel lit regs k ram ≡ ram
   unfolding putPixel
   put-below k ram h = simp (le-ltb (rowOf regs k) 120 h, and-false)
 
   -- ---- what one cycle writes
 
   -- nothing where no clock begins
-  pub written-still : (e : ℕ) (ram : List ℕ) → suc e / 2 ≡ e / 2 → writtenAt frame regs (suc e) ram ≡ ram
+  pub written-still : (e : ℕ) (ram : List ℕ) → suc e / 2 ≡ e / 2 → writtenAt lit regs (suc e) ram ≡ ram
   unfolding writtenAt due
   written-still e ram h =
       let p : suc e - 1 ≡ e = omega arith in
       simp (p, h, and-not-self)
 
   -- nothing before reading begins
-  pub written-early : (e : ℕ) (ram : List ℕ) → suc e / 2 ≤ readingFrom regs → writtenAt frame regs (suc e) ram ≡ ram
+  pub written-early : (e : ℕ) (ram : List ℕ) → suc e / 2 ≤ readingFrom regs → writtenAt lit regs (suc e) ram ≡ ram
   unfolding writtenAt due
   written-early e ram h = simp (ne-eqb (suc e / 2) (readingFrom regs + candidate regs (suc e) + 1) (λ q. omega arith))
 
   module _ (e k : ℕ) (ram : List ℕ) (now : suc e / 2 ≡ readingFrom regs + k + 1) (last : e / 2 ≡ readingFrom regs + k) where
     -- pixel k at the one cycle that begins its clock
-    pub written-due : k < 128 * rowsRead regs → writtenAt frame regs (suc e) ram ≡ putPixel frame regs k ram
+    pub written-due : k < 128 * rowsRead regs → writtenAt lit regs (suc e) ram ≡ putPixel lit regs k ram
     unfolding writtenAt due
     written-due h =
         let p : suc e - 1 ≡ e = omega arith in
@@ -133,7 +133,7 @@ module _ (frame regs : List ℕ) where
         rw (c, p, eq-eqb (suc e / 2) (readingFrom regs + k + 1) now, ne-eqb (e / 2) (readingFrom regs + k + 1) (λ q. omega arith), lt-ltb k (128 * rowsRead regs) h)
 
     -- nothing past the last row that is read
-    pub written-past : 128 * rowsRead regs ≤ k → writtenAt frame regs (suc e) ram ≡ ram
+    pub written-past : 128 * rowsRead regs ≤ k → writtenAt lit regs (suc e) ram ≡ ram
     unfolding writtenAt
     written-past h =
         let c : candidate regs (suc e) ≡ k = omega arith in
@@ -142,17 +142,17 @@ module _ (frame regs : List ℕ) where
   module _ (from e : ℕ) (ram : List ℕ) (begun : from ≤ doneBy regs e) where
     -- the pixels done so far
     abbrev soFar : ℕ → List ℕ
-    soFar n = pixels frame regs from (doneBy regs n) ram
+    soFar n = pixels lit regs from (doneBy regs n) ram
 
     -- a cycle that writes nothing, and one that writes the picture's next pixel
     same : {r : List ℕ} → doneBy regs e ≡ doneBy regs (suc e) → r ≡ soFar e → r ≡ soFar (suc e)
-    same q p = p ∙ ap (λ (n : ℕ). pixels frame regs from n ram) q
+    same q p = p ∙ ap (λ (n : ℕ). pixels lit regs from n ram) q
 
-    moves : {r : List ℕ} → suc (doneBy regs e) ≡ doneBy regs (suc e) → r ≡ putNth frame regs (doneBy regs e) (soFar e) → r ≡ soFar (suc e)
+    moves : {r : List ℕ} → suc (doneBy regs e) ≡ doneBy regs (suc e) → r ≡ putNth lit regs (doneBy regs e) (soFar e) → r ≡ soFar (suc e)
     moves q p =
         p
-        ∙ sym (pixels-suc frame regs from (doneBy regs e) ram begun)
-        ∙ ap (λ (n : ℕ). pixels frame regs from n ram) q
+        ∙ sym (pixels-suc lit regs from (doneBy regs e) ram begun)
+        ∙ ap (λ (n : ℕ). pixels lit regs from n ram) q
 
     still-none : suc e / 2 ≤ pictureFrom regs → doneBy regs e ≡ doneBy regs (suc e)
     still-none h = done-low regs e (omega arith) ∙ sym (done-low regs (suc e) h)
@@ -161,7 +161,7 @@ module _ (frame regs : List ℕ) where
     still-all h = done-high regs e h ∙ sym (done-high regs (suc e) (omega arith))
 
     -- pixel k, where it is the sensor's
-    row-step : (k : ℕ) → suc e / 2 ≡ readingFrom regs + k + 1 → e / 2 ≡ readingFrom regs + k → putPixel frame regs k (soFar e) ≡ soFar (suc e)
+    row-step : (k : ℕ) → suc e / 2 ≡ readingFrom regs + k + 1 → e / 2 ≡ readingFrom regs + k → putPixel lit regs k (soFar e) ≡ soFar (suc e)
     row-step k now last =
         let t = timed regs in
         split (rowOf regs k) 8
@@ -176,7 +176,7 @@ module _ (frame regs : List ℕ) where
         (λ below. same (still-all (omega arith)) (put-below k (soFar e) below)))
 
     -- the pixels done so far, and cycle e + 1: the pixels done so far
-    pub pixels-step : writtenAt frame regs (suc e) (soFar e) ≡ soFar (suc e)
+    pub pixels-step : writtenAt lit regs (suc e) (soFar e) ≡ soFar (suc e)
     pixels-step =
         let t = timed regs in
         split (e / 2) (suc e / 2)

@@ -47,15 +47,15 @@ abbrev pub rowOf : List ℕ → ℕ → ℕ
 rowOf regs k = firstRow regs + k / 128
 
 -- Picture row y is sensor row y + 8, y from 0 to 111; other rows write nothing
-unfoldable pub putPixel : List ℕ → List ℕ → ℕ → List ℕ → List ℕ
-putPixel frame regs k ram =
+unfoldable pub putPixel : (ℕ → ℕ → ℕ) → List ℕ → ℕ → List ℕ → List ℕ
+putPixel lit regs k ram =
     pick (leb 8 (rowOf regs k) && ltb (rowOf regs k) 120)
-    (putAt ram (k % 128) (rowOf regs k - 8) (shadeAt frame regs (k % 128) (rowOf regs k)))
+    (putAt ram (k % 128) (rowOf regs k - 8) (shadeAt lit regs (k % 128) (rowOf regs k)))
     ram
 
 -- what cycle number e of a capture writes: pixel k where it is due, with k running over the rows that are read
-unfoldable pub writtenAt : List ℕ → List ℕ → ℕ → List ℕ → List ℕ
-writtenAt frame regs e ram =
+unfoldable pub writtenAt : (ℕ → ℕ → ℕ) → List ℕ → ℕ → List ℕ → List ℕ
+writtenAt lit regs e ram =
     pick (due regs (candidate regs e) e && ltb (candidate regs e) (128 * rowsRead regs))
-    (putPixel frame regs (candidate regs e) ram)
+    (putPixel lit regs (candidate regs e) ram)
     ram

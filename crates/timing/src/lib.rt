@@ -7,6 +7,7 @@ ghost use Prim.Native.Nat.{ℕ, _+_, _-_, _*_, _/_, _%_, _<_, _≤_, min};
 ghost use lib.ListN.{length};
 ghost use Rattle.laws.specs.Sums.{sumOf};
 ghost use Rattle.sensor.specs.Taken.{exposureOf};
+ghost use Rattle.sensor.specs.Light.{byteAt};
 ghost use Rattle.tiles.specs.Bulk.{pixels};
 ghost use Rattle.timing.specs.Lent.{banksAllowed, romAllowed, ramAllowed};
 ghost use Rattle.timing.specs.Registers.{allZero};
@@ -62,18 +63,6 @@ pub fn bank_place(number: u8, len: usize, size: usize) -> usize
     ensures { λ r. ⌜ r ≡ number % (len / size) * size ⌝ }
 {
     number as usize % (len / size) * size
-}
-
-// Copies the image to the frame store.
-pub fn copy_frame(store: &mut [u8], image: &[u8])
-    requires { ⌜ length (now store) ≡ length (now image) ⌝ }
-    ensures { λ _. ⌜ now (store .exit) ≡ now (image .entry) ⌝ }
-{
-    let mut i = 0;
-    while i < image.len() {
-        store[i] = image[i];
-        i += 1;
-    }
 }
 
 // A byte as a wider number, with its bound.
@@ -159,10 +148,10 @@ fn done_by(first: Clocks, elapsed: Cycles) -> usize
     tiles::PIXELS
 }
 
-// Writes what falls between two numbers of elapsed cycles of a capture.
+// Writes what falls between two numbers of elapsed cycles of a capture, from a store of lit values.
 pub fn write_between(ram: &mut [u8], store: &[u8], regs: &[u8; 54], elapsed: Cycles, then: Cycles)
     requires { ⌜ (elapsed .0 ≤ then .0) × (8192 ≤ length (now ram)) × (length (now store) ≡ 16384) ⌝ }
-    ensures { λ _. ⌜ now (ram .exit) ≡ pixels (now (store .entry)) (now (regs .entry)) (doneBy (now (regs .entry)) (elapsed .0)) (doneBy (now (regs .entry)) (then .0)) (now (ram .entry)) ⌝ }
+    ensures { λ _. ⌜ now (ram .exit) ≡ pixels (byteAt (now (store .entry))) (now (regs .entry)) (doneBy (now (regs .entry)) (elapsed .0)) (doneBy (now (regs .entry)) (then .0)) (now (ram .entry)) ⌝ }
 {
     let first = picture_from(regs);
     let from = done_by(first, elapsed);

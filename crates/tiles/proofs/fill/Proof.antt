@@ -4,17 +4,18 @@ use Prim.Native.Nat.{ℕ, _-_, _%_, _<_, _≤_}
 use native.Mathlib.Omega.{arith}
 use lib.ListN.{length, getD, length-set}
 use borrow.Author.Needs.{needs}
+use Rattle.sensor.specs.Light.{byteAt}
 use Rattle.tiles.specs.Picture.{pictureByte}
 use Rattle.tiles.proofs.Area.{picture-more, picture-made}
 use Rattle.tiles.proofs.fill.Statement.{statement}
 use Rattle.tiles.proofs.fill.Tie as tie
 
 abbrev Inv-loop : tie.InvT-loop
-Inv-loop frame set regs out₀ i₀ out i =
-    (i ≤ 3584) × (i % 2 ≡ 0) × (length out ≡ 3584) × ((k : ℕ) → k < i → getD out k 0 ≡ pictureByte frame regs k)
+Inv-loop store set regs out₀ i₀ out i =
+    (i ≤ 3584) × (i % 2 ≡ 0) × (length out ≡ 3584) × ((k : ℕ) → k < i → getD out k 0 ≡ pictureByte (byteAt store) regs k)
 
 abbrev μ-loop : tie.MeasureT-loop
-μ-loop frame set regs out₀ i₀ out i = 3584 - i
+μ-loop store set regs out₀ i₀ out i = 3584 - i
 
 loop-again : tie.Need-loop-again Inv-loop μ-loop
 loop-again c =
@@ -23,7 +24,7 @@ loop-again c =
       omega arith,
       omega arith,
       simp length-set (l .inv .2),
-      picture-more (a .frame .now) (a .regs .now) (l .out) (l .i) (c .tile-row .result .low) (c .tile-row .result .high) (l .inv .1) (omega arith) (l .inv .3) (c .tile-row .ensures .0) (c .tile-row .ensures .1),
+      picture-more (byteAt (a .store .now)) (a .regs .now) (l .out) (l .i) (c .tile-row .result .low) (c .tile-row .result .high) (l .inv .1) (omega arith) (l .inv .3) (c .tile-row .ensures .0) (c .tile-row .ensures .1),
     )
 
 returns : tie.Need-returns Inv-loop μ-loop

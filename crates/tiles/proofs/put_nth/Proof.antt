@@ -2,6 +2,7 @@
 use Prim.Native.Nat.{_+_, _/_, _%_}
 use native.Mathlib.Omega.{arith}
 use borrow.Author.Needs.{needs}
+use Rattle.sensor.specs.Light.{byteAt}
 use Rattle.sensor.proofs.Facts.{shade-small}
 use Rattle.tiles.specs.Bulk.{putNth}
 use Rattle.tiles.proofs.Pixels.{shade-same}
@@ -11,7 +12,7 @@ use Rattle.tiles.proofs.put_nth.Tie as tie
 put-pixel-requires : tie.Need-put-pixel-requires
 put-pixel-requires c κs =
     let a = c .before .before .before .before .args in
-    omega (arith, shade-same _ _ _ _ _ (c .before .pixel-at .ensures), shade-small (a .store .now) (a .regs .now) (a .j % 128) (a .j / 128 + 8))
+    omega (arith, shade-same _ _ _ _ _ (c .before .pixel-at .ensures), shade-small (byteAt (a .store .now)) (a .regs .now) (a .j % 128) (a .j / 128 + 8))
 
 returns : tie.Need-returns
 unfolding putNth

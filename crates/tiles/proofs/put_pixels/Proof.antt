@@ -1,5 +1,6 @@
 -- `tiles::put_pixels` meets its contract. The invariant: the RAM is the pixels from `from` to j put into what it was. Assumes nothing.
 use Rattle.tiles.proofs.Run.{pixels-none, pixels-join}
+use Rattle.sensor.specs.Light.{byteAt}
 use Rattle.tiles.specs.Bulk.{pixels}
 use lib.ListN.{length}
 use native.Mathlib.Omega.{arith}
@@ -9,7 +10,7 @@ use Rattle.tiles.proofs.put_pixels.Statement.{statement}
 use Rattle.tiles.proofs.put_pixels.Tie as tie
 
 abbrev Inv-loop : tie.InvT-loop
-Inv-loop ram₀ store set regs from to j₀ ram j = (from ≤ j) × (j ≤ to) × (length ram ≡ length ram₀) × (ram ≡ pixels store regs from j ram₀)
+Inv-loop ram₀ store set regs from to j₀ ram j = (from ≤ j) × (j ≤ to) × (length ram ≡ length ram₀) × (ram ≡ pixels (byteAt store) regs from j ram₀)
 
 abbrev μ-loop : tie.MeasureT-loop
 μ-loop ram₀ store set regs from to j₀ ram j = to - j
@@ -31,7 +32,7 @@ loop-again c =
       omega arith,
       omega arith,
       s .kept .0 ∙ l .inv .2,
-      s .ensures .0 ∙ ap (pixels (a .store .now) (a .regs .now) (l .j) (s .result)) (l .inv .3) ∙ pixels-join (a .store .now) (a .regs .now) (a .from) (l .j) (s .result) (a .ram .now) (l .inv .0) (omega arith),
+      s .ensures .0 ∙ ap (pixels (byteAt (a .store .now)) (a .regs .now) (l .j) (s .result)) (l .inv .3) ∙ pixels-join (byteAt (a .store .now)) (a .regs .now) (a .from) (l .j) (s .result) (a .ram .now) (l .inv .0) (omega arith),
     )
 
 same-length : tie.Need-same-length Inv-loop μ-loop

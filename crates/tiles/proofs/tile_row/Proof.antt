@@ -5,6 +5,7 @@ use native.Mathlib.Omega.{arith}
 use mathlib.Core.List.{List}
 use borrow.Author.Needs.{needs}
 use Rattle.laws.specs.Lists.{packed}
+use Rattle.sensor.specs.Light.{byteAt}
 use Rattle.tiles.specs.Picture.{pictureShade, lowByte, highByte}
 use Rattle.laws.proofs.Packed.{packed-none, packed-next, packed-room}
 use Rattle.sensor.proofs.Facts.{shade-small}
@@ -13,27 +14,27 @@ use Rattle.tiles.proofs.tile_row.Statement.{statement}
 use Rattle.tiles.proofs.tile_row.Tie as tie
 
 -- the low bits and the high bits of the row
-abbrev lows : List ℕ → List ℕ → ℕ → ℕ → ℕ → ℕ
-lows frame regs t y b = pictureShade frame regs (8 * t + b) y % 2
+abbrev lows : (ℕ → ℕ → ℕ) → List ℕ → ℕ → ℕ → ℕ → ℕ
+lows lit regs t y b = pictureShade lit regs (8 * t + b) y % 2
 
-abbrev highs : List ℕ → List ℕ → ℕ → ℕ → ℕ → ℕ
-highs frame regs t y b = pictureShade frame regs (8 * t + b) y / 2
+abbrev highs : (ℕ → ℕ → ℕ) → List ℕ → ℕ → ℕ → ℕ → ℕ
+highs lit regs t y b = pictureShade lit regs (8 * t + b) y / 2
 
 abbrev Inv-loop : tie.InvT-loop
-Inv-loop frame set regs t y low₀ high₀ b₀ low high b =
-    (b ≤ 8) × (low ≡ packed (lows frame regs t y) b) × (high ≡ packed (highs frame regs t y) b)
+Inv-loop store set regs t y low₀ high₀ b₀ low high b =
+    (b ≤ 8) × (low ≡ packed (lows (byteAt store) regs t y) b) × (high ≡ packed (highs (byteAt store) regs t y) b)
 
 abbrev μ-loop : tie.MeasureT-loop
-μ-loop frame set regs t y low₀ high₀ b₀ low high b = 8 - b
+μ-loop store set regs t y low₀ high₀ b₀ low high b = 8 - b
 
 -- there is room for one bit more in each byte, and the shade has two
 room : (c : tie.After-pixel-at Inv-loop μ-loop) → (c .before .before .loop .low < 128) × (c .before .before .loop .high < 128) × (c .pixel-at .result .shade < 4)
 room c =
     let a = c .before .before .before .before .args in
     let l = c .before .before .loop in
-    let s = shade-small (a .frame .now) (a .regs .now) in (
-      omega (arith, packed-room (lows (a .frame .now) (a .regs .now) (a .t) (a .y)) (λ b. omega arith) (l .b) (omega arith)),
-      omega (arith, packed-room (highs (a .frame .now) (a .regs .now) (a .t) (a .y)) (λ b. omega (arith, s (8 * a .t + b) (a .y + 8))) (l .b) (omega arith)),
+    let s = shade-small (byteAt (a .store .now)) (a .regs .now) in (
+      omega (arith, packed-room (lows (byteAt (a .store .now)) (a .regs .now) (a .t) (a .y)) (λ b. omega arith) (l .b) (omega arith)),
+      omega (arith, packed-room (highs (byteAt (a .store .now)) (a .regs .now) (a .t) (a .y)) (λ b. omega (arith, s (8 * a .t + b) (a .y + 8))) (l .b) (omega arith)),
       shade-bound _ _ _ _ _ (shade-same _ _ _ _ _ (c .pixel-at .ensures)),
     )
 
@@ -43,8 +44,8 @@ loop-again c =
     let a = p .before .before .before .before .args in
     let l = p .before .before .loop in (
       omega arith,
-      packed-next (lows (a .frame .now) (a .regs .now) (a .t) (a .y)) (l .b) (l .low) _ (l .inv .1) (ap (λ (n : ℕ). n % 2) (shade-same _ _ _ _ _ (p .pixel-at .ensures))),
-      packed-next (highs (a .frame .now) (a .regs .now) (a .t) (a .y)) (l .b) (l .high) _ (l .inv .2) (ap (λ (n : ℕ). n / 2) (shade-same _ _ _ _ _ (p .pixel-at .ensures))),
+      packed-next (lows (byteAt (a .store .now)) (a .regs .now) (a .t) (a .y)) (l .b) (l .low) _ (l .inv .1) (ap (λ (n : ℕ). n % 2) (shade-same _ _ _ _ _ (p .pixel-at .ensures))),
+      packed-next (highs (byteAt (a .store .now)) (a .regs .now) (a .t) (a .y)) (l .b) (l .high) _ (l .inv .2) (ap (λ (n : ℕ). n / 2) (shade-same _ _ _ _ _ (p .pixel-at .ensures))),
     )
 
 returns : tie.Need-returns Inv-loop μ-loop
