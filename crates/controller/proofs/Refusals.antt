@@ -13,6 +13,8 @@ use Rattle.laws.specs.Pick.{pick}
 use Rattle.laws.proofs.Order.{split}
 use Rattle.laws.proofs.Pick.{pick-ind, never}
 use Rattle.laws.proofs.Bools.{either, both-left, both-right, not-fails}
+use Rattle.sensor.specs.Taken.{settingOf}
+use Rattle.sensor.specs.Light.{byteAt, litOf}
 use Rattle.tiles.specs.Picture.{pictureOf}
 use Rattle.controller.specs.declared.Controller.{Controller}
 use Rattle.controller.specs.declared.Refusal.{Refusal}
@@ -173,10 +175,10 @@ module _ (c : Controller) where
       refuses (writeRows c ram store image a) inOutcome (refusal c ram store) (wrote (byteWritten c ram store image a v)) (λ n. refl) refl refl
 
   -- a tick
-  pub tick-refuses : (ram store : List ℕ) (n : ℕ) → Refuses (tickRows c ram store) inOutcome (refusal c ram store) (tickMeans c ram store n) (ticked store (ticks store n (from c ram)))
+  pub tick-refuses : (ram store : List ℕ) (n : ℕ) → Refuses (tickRows c ram store) inOutcome (refusal c ram store) (tickMeans c ram store n) (ticked store (ticks (byteAt store) n (from c ram)))
   unfolding tickRows tickMeans risingFrom
   tick-refuses ram store n =
-      refuses (tickRows c ram store) inOutcome (refusal c ram store) (ticked store (ticks store n (from c ram))) (λ n. refl) refl refl
+      refuses (tickRows c ram store) inOutcome (refusal c ram store) (ticked store (ticks (byteAt store) n (from c ram))) (λ n. refl) refl refl
 
   -- an inspection
   pub inspect-refuses : Refuses (inspectRows c) inInspection noElement (inspectMeans c) (named (firstIn (c .registers) 0 16))
@@ -187,9 +189,10 @@ module _ (c : Controller) where
       name-zero k = pick-ind (λ (i : Inspection). i .number ≡ 0) (ltb k 16) (λ t. refl) (λ f. refl)
 
 -- the picture afresh
-pub picture-refuses : (frame regs out : List ℕ) → Refuses (pictureRows frame) inAfresh (λ n. afresh n out) (pictureMeans frame regs out) (afresh 0 (pictureOf frame regs))
+pub picture-refuses : (image regs out : List ℕ) → Refuses (pictureRows image) inAfresh (λ n. afresh n out) (pictureMeans image regs out) (afresh 0 (pictureOf (litOf image (settingOf regs)) regs))
 unfolding pictureRows pictureMeans risingFrom
-picture-refuses frame regs out = refuses (pictureRows frame) inAfresh (λ n. afresh n out) (afresh 0 (pictureOf frame regs)) (λ n. refl) refl refl
+picture-refuses image regs out =
+    refuses (pictureRows image) inAfresh (λ n. afresh n out) (afresh 0 (pictureOf (litOf image (settingOf regs)) regs)) (λ n. refl) refl refl
 
 -- ---- what is so where a call is not refused
 
@@ -273,6 +276,6 @@ pub inspect-fits : (c : Controller) → lowest (inspectRows c) ≡ 0 → cantExi
 unfolding inspectRows
 inspect-fits c e = first-fails _ _ e .0
 
-pub picture-fits : (frame : List ℕ) → lowest (pictureRows frame) ≡ 0 → frameAllowed (length frame) ≡ true
+pub picture-fits : (image : List ℕ) → lowest (pictureRows image) ≡ 0 → frameAllowed (length image) ≡ true
 unfolding pictureRows
-picture-fits frame e = not-fails _ (first-fails _ _ e .0)
+picture-fits image e = not-fails _ (first-fails _ _ e .0)

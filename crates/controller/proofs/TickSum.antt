@@ -9,6 +9,7 @@ use lib.ListN.{length}
 use Rattle.laws.specs.Pick.{pick}
 use Rattle.laws.specs.Iter.{iter, iter-add, iter-maps, iter-keeps}
 use Rattle.laws.proofs.Order.{split}
+use Rattle.sensor.specs.Light.{byteAt}
 use Rattle.controller.specs.declared.Controller.{Controller}
 use Rattle.timing.specs.Timing.{totalOf, putPixel, writtenAt}
 use Rattle.controller.specs.State.{cantExist, started}
@@ -39,51 +40,51 @@ either false f g = g refl
 
 -- ---- cycles, one after the other
 
-pub ticks-add : (frame : List ℕ) (a b : ℕ) (w : Ticking) → ticks frame (a + b) w ≡ ticks frame b (ticks frame a w)
-ticks-add frame a b w = iter-add (cycle frame) a b w
+pub ticks-add : (lit : ℕ → ℕ → ℕ) (a b : ℕ) (w : Ticking) → ticks lit (a + b) w ≡ ticks lit b (ticks lit a w)
+ticks-add lit a b w = iter-add (cycle lit) a b w
 
 -- r more cycles that ran
 abbrev pub more : ℕ → Ticking → Ticking
 more r w = record { state = w .state; ram = w .ram; ran = r + w .ran }
 
-pub more-cycle : (frame : List ℕ) (r : ℕ) (w : Ticking) → cycle frame (more r w) ≡ more r (cycle frame w)
+pub more-cycle : (lit : ℕ → ℕ → ℕ) (r : ℕ) (w : Ticking) → cycle lit (more r w) ≡ more r (cycle lit w)
 unfolding cycle runs
-more-cycle frame r w = simp (ap-pick (more r), add-assoc)
+more-cycle lit r w = simp (ap-pick (more r), add-assoc)
 
 -- the counts add up
-pub ticks-sum : (frame : List ℕ) (a b : ℕ) (c : Controller) (ram : List ℕ)
-    → ticks frame (a + b) (from c ram) ≡ more (ticks frame a (from c ram) .ran) (ticks frame b (from (ticks frame a (from c ram) .state) (ticks frame a (from c ram) .ram)))
-ticks-sum frame a b c ram =
-    let w = ticks frame a (from c ram) in
-    ticks-add frame a b (from c ram)
-    ∙ ap (iter (cycle frame) b) (rw add-zero)
-    ∙ iter-maps (cycle frame) (cycle frame) (more (w .ran)) (more-cycle frame (w .ran)) b (from (w .state) (w .ram))
+pub ticks-sum : (lit : ℕ → ℕ → ℕ) (a b : ℕ) (c : Controller) (ram : List ℕ)
+    → ticks lit (a + b) (from c ram) ≡ more (ticks lit a (from c ram) .ran) (ticks lit b (from (ticks lit a (from c ram) .state) (ticks lit a (from c ram) .ram)))
+ticks-sum lit a b c ram =
+    let w = ticks lit a (from c ram) in
+    ticks-add lit a b (from c ram)
+    ∙ ap (iter (cycle lit) b) (rw add-zero)
+    ∙ iter-maps (cycle lit) (cycle lit) (more (w .ran)) (more-cycle lit (w .ran)) b (from (w .state) (w .ram))
 
 -- ---- what a cycle keeps: a state that can exist, and the RAM's length
 
-written-length : (frame regs : List ℕ) (e : ℕ) (ram : List ℕ) → length (writtenAt frame regs e ram) ≡ length ram
+written-length : (lit : ℕ → ℕ → ℕ) (regs : List ℕ) (e : ℕ) (ram : List ℕ) → length (writtenAt lit regs e ram) ≡ length ram
 unfolding writtenAt putPixel
-written-length frame regs e ram = simp (ap-pick (λ (l : List ℕ). length l), put-length, pick-same)
+written-length lit regs e ram = simp (ap-pick (λ (l : List ℕ). length l), put-length, pick-same)
 
 -- the state can exist, and the RAM has so many bytes
 pub record Kept (n : ℕ) (w : Ticking) : Type 0 where
   pub exists : cantExist (w .state) ≡ false
   pub long : length (w .ram) ≡ n
 
-pub cycle-keeps : (frame : List ℕ) (n : ℕ) (w : Ticking) → Kept n w → Kept n (cycle frame w)
-cycle-keeps frame n w k =
+pub cycle-keeps : (lit : ℕ → ℕ → ℕ) (n : ℕ) (w : Ticking) → Kept n w → Kept n (cycle lit w)
+cycle-keeps lit n w k =
     either (running (w .state))
     (λ runs.
     let held : w .state .held ≡ true = both-left (w .state .held) (started (w .state .registers)) runs in
     let before : w .state .elapsed .0 < totalOf (w .state .taken) = before-total (w .state) (k .exists) held in
-    let long = written-length frame (w .state .taken) (suc (w .state .elapsed .0)) (w .ram) ∙ k .long in
+    let long = written-length lit (w .state .taken) (suc (w .state .elapsed .0)) (w .ram) ∙ k .long in
     split (suc (w .state .elapsed .0)) (totalOf (w .state .taken))
-    (λ on. rw (cycle-on frame w runs on) (record { exists = exists-moved _ _ (k .exists) held on; long = long }))
-    (λ last. rw (cycle-last frame w runs (omega arith)) (record { exists = exists-ended _ (k .exists); long = long })))
-    (λ idle. rw (rest frame w idle) k)
+    (λ on. rw (cycle-on lit w runs on) (record { exists = exists-moved _ _ (k .exists) held on; long = long }))
+    (λ last. rw (cycle-last lit w runs (omega arith)) (record { exists = exists-ended _ (k .exists); long = long })))
+    (λ idle. rw (rest lit w idle) k)
 
-pub ticks-keep : (frame : List ℕ) (n a : ℕ) (w : Ticking) → Kept n w → Kept n (ticks frame a w)
-ticks-keep frame n a w k = iter-keeps (cycle frame) (Kept n) (cycle-keeps frame n) a w k
+pub ticks-keep : (lit : ℕ → ℕ → ℕ) (n a : ℕ) (w : Ticking) → Kept n w → Kept n (ticks lit a w)
+ticks-keep lit n a w k = iter-keeps (cycle lit) (Kept n) (cycle-keeps lit n) a w k
 
 -- ---- ticks, one after the other, refusals too
 
@@ -102,8 +103,8 @@ tick-sum c ram store a b = by-number (lowest (tickRows c ram store)) refl
         rw (tick-refuses c ram store (a + b) .kept n h, tick-refuses c ram store a .kept n h, tick-refuses c ram store b .kept n h)
     by-number zero h =
         let f = tick-fits c ram store h in
-        let w = ticks store a (from c ram) in
-        let k : Kept (length ram) w = ticks-keep store (length ram) a (from c ram) (record { exists = f .exists; long = refl }) in
+        let w = ticks (byteAt store) a (from c ram) in
+        let k : Kept (length ram) w = ticks-keep (byteAt store) (length ram) a (from c ram) (record { exists = f .exists; long = refl }) in
         let again = tick-none (w .state) (w .ram) store (record { exists = k .exists; ram-fits = rw (k .long) (f .ram-fits); store-fits = f .store-fits }) in
         rw (tick-refuses c ram store (a + b) .does h, tick-refuses c ram store a .does h, tick-refuses (w .state) (w .ram) store b .does again)
-        (ap (ticked store) (ticks-sum store a b c ram))
+        (ap (ticked store) (ticks-sum (byteAt store) a b c ram))

@@ -6,6 +6,8 @@ use lib.Dec.{eqb, leb, ltb}
 use lib.ListN.{length, getD, set}
 use Rattle.laws.specs.Pick.{pick}
 use Rattle.laws.specs.Bits.{isSet}
+use Rattle.sensor.specs.Taken.{settingOf}
+use Rattle.sensor.specs.Light.{lightFrame}
 use Rattle.controller.specs.declared.Controller.{Controller}
 use Rattle.controller.specs.State.{started}
 use Rattle.controller.specs.Capture.{begun}
@@ -115,9 +117,10 @@ captureWritten c v = pick (isStart c v) (begun c (v % 8)) (withRegister c 0 (v %
 unfoldable pub registerWritten : Controller → ℕ → ℕ → Controller
 registerWritten c i v = pick (eqb i 0) (captureWritten c v) (pick (ltb i 54) (withRegister c i v) c)
 
--- The image is copied to the frame store at a start
+-- At a start the frame store gets the light of the image, worked out from the registers just taken
 unfoldable pub storeWritten : Controller → List ℕ → List ℕ → ℕ → ℕ → List ℕ
-storeWritten c store image i v = pick (eqb i 0 && isStart c v) image store
+storeWritten c store image i v =
+    pick (eqb i 0 && isStart c v) (lightFrame image (settingOf (set (c .registers) 0 (v % 8)))) store
 
 -- While register 0 has bit 0 set, writes are ignored. Otherwise a write lands only if enabled
 abbrev pub ramWritable : Controller → Bool

@@ -2,6 +2,7 @@
 use mathlib.Core.List.{List, [], _∷_}
 use Prim.Native.Nat.{ℕ}
 use lib.ListN.{length}
+use Rattle.sensor.specs.Light.{byteAt}
 use Rattle.controller.specs.declared.Controller.{Controller}
 use Rattle.controller.specs.Outcome.{Outcome, outcome}
 use Rattle.controller.specs.Bus.{byteRead, byteWritten, Left}
@@ -34,7 +35,7 @@ unfoldable pub writeMeans : Controller → List ℕ → List ℕ → List ℕ �
 writeMeans c ram store image a v =
     judged (lowest (writeRows c ram store image a)) (refusal c ram store) (wrote (byteWritten c ram store image a v))
 
--- a tick RAM and frame store
+-- a tick RAM and frame store, whose bytes are read as lit values
 unfoldable pub tickRows : Controller → List ℕ → List ℕ → List Row
 tickRows c ram store = noState c ∷ noRam (length ram) ∷ noFrame (length store) ∷ []
 
@@ -43,4 +44,4 @@ ticked store w = outcome 0 (w .ran) (w .state) (w .ram) store
 
 unfoldable pub tickMeans : Controller → List ℕ → List ℕ → ℕ → Outcome
 tickMeans c ram store n =
-    judged (lowest (tickRows c ram store)) (refusal c ram store) (ticked store (ticks store n (from c ram)))
+    judged (lowest (tickRows c ram store)) (refusal c ram store) (ticked store (ticks (byteAt store) n (from c ram)))

@@ -63,23 +63,23 @@ abbrev pub running : Controller → Bool
 running c = c .held && started (c .registers)
 
 -- each such cycle adds one to elapsed, and its pixel is written, RAM writing enabled or not
-unfoldable pub runs : List ℕ → Ticking → Ticking
-runs frame w = record {
+unfoldable pub runs : (ℕ → ℕ → ℕ) → Ticking → Ticking
+runs lit w = record {
   state =
       pick (eqb (w .state .elapsed .0 + 1) (totalOf (w .state .taken)))
       (ended (w .state))
       (moved (w .state) (w .state .elapsed .0 + 1));
-  ram = writtenAt frame (w .state .taken) (w .state .elapsed .0 + 1) (w .ram);
+  ram = writtenAt lit (w .state .taken) (w .state .elapsed .0 + 1) (w .ram);
   ran = w .ran + 1;
 }
 
 -- other cycles change nothing
-unfoldable pub cycle : List ℕ → Ticking → Ticking
-cycle frame w = pick (running (w .state)) (runs frame w) w
+unfoldable pub cycle : (ℕ → ℕ → ℕ) → Ticking → Ticking
+cycle lit w = pick (running (w .state)) (runs lit w) w
 
 -- A tick of n is n ticks of one cycle
-abbrev pub ticks : List ℕ → ℕ → Ticking → Ticking
-ticks frame n w = iter (cycle frame) n w
+abbrev pub ticks : (ℕ → ℕ → ℕ) → ℕ → Ticking → Ticking
+ticks lit n w = iter (cycle lit) n w
 
 -- as a tick begins, none of its cycles has run
 abbrev pub from : Controller → List ℕ → Ticking

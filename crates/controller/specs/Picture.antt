@@ -1,7 +1,9 @@
--- The picture afresh, as a call: from a frame and 54 registers into lent bytes. Assumes nothing.
+-- The picture afresh, as a call: from an image and 54 registers into lent bytes. Assumes nothing.
 use mathlib.Core.List.{List, [], _∷_}
 use Prim.Native.Nat.{ℕ}
 use lib.ListN.{length}
+use Rattle.sensor.specs.Taken.{settingOf}
+use Rattle.sensor.specs.Light.{litOf}
 use Rattle.tiles.specs.Picture.{pictureOf}
 use Rattle.controller.specs.Table.{Row, noFrame, lowest, judged}
 
@@ -14,8 +16,9 @@ abbrev pub afresh : ℕ → List ℕ → Afresh
 afresh n bytes = record { number = n; bytes = bytes }
 
 unfoldable pub pictureRows : List ℕ → List Row
-pictureRows frame = noFrame (length frame) ∷ []
+pictureRows image = noFrame (length image) ∷ []
 
--- 4 is given when the frame is not 16,384 bytes, and then no byte lent changes
+-- from an image, lit by the registers. 4 is given when it is not 16,384 bytes, and then no byte lent changes
 unfoldable pub pictureMeans : List ℕ → List ℕ → List ℕ → Afresh
-pictureMeans frame regs out = judged (lowest (pictureRows frame)) (λ n. afresh n out) (afresh 0 (pictureOf frame regs))
+pictureMeans image regs out =
+    judged (lowest (pictureRows image)) (λ n. afresh n out) (afresh 0 (pictureOf (litOf image (settingOf regs)) regs))

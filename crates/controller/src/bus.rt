@@ -10,9 +10,10 @@ use super::judge::no_place;
 use super::judge::no_ram;
 use super::judge::no_rom;
 use super::state::one_more;
+use sensor::Setting;
+use sensor::light_frame;
 use timing::Cycles;
 use timing::bank_place;
-use timing::copy_frame;
 ghost use mathlib.Core.Path.{_≡_};
 ghost use mathlib.Core.Bool.{Bool, true, false};
 ghost use mathlib.Core.List.{List};
@@ -174,14 +175,16 @@ impl Controller {
         self
     }
 
-    // A write of register 0.
+    // A write of register 0. A start lights the image into the store, by the registers just taken.
     fn capture_write(mut self, store: &mut [u8], image: &[u8], value: u8) -> Controller
-        requires { ⌜ length (now store) ≡ length (now image) ⌝ }
+        requires { ⌜ (length (now store) ≡ 16384) × (length (now image) ≡ 16384) ⌝ }
         ensures { λ r. ⌜ (r ≡ captureWritten self value) × (now (store .exit) ≡ storeWritten self (now (store .entry)) (now (image .entry)) 0 value) ⌝ }
     {
         if self.is_start(value) {
-            copy_frame(store, image);
-            return self.begin(value % 8);
+            let next = self.begin(value % 8);
+            let taken = next.taken;
+            light_frame(image, Setting::of(&taken), store);
+            return next;
         }
         self.registers[0] = value % 8;
         self
@@ -195,7 +198,7 @@ impl Controller {
         number: usize,
         value: u8,
     ) -> Controller
-        requires { ⌜ length (now store) ≡ length (now image) ⌝ }
+        requires { ⌜ (length (now store) ≡ 16384) × (length (now image) ≡ 16384) ⌝ }
         ensures { λ r. ⌜ (r ≡ registerWritten self number value) × (now (store .exit) ≡ storeWritten self (now (store .entry)) (now (image .entry)) number value) ⌝ }
     {
         if number == 0 {
@@ -233,7 +236,7 @@ impl Controller {
         address: u16,
         value: u8,
     ) -> Controller
-        requires { ⌜ (ramAllowed (length (now ram)) ≡ true) × (length (now store) ≡ length (now image)) ⌝ }
+        requires { ⌜ (ramAllowed (length (now ram)) ≡ true) × (length (now store) ≡ 16384) × (length (now image) ≡ 16384) ⌝ }
         ensures { λ r. ⌜ left r (now (ram .exit)) (now (store .exit)) ≡ byteWritten self (now (ram .entry)) (now (store .entry)) (now (image .entry)) address value ⌝ }
     {
         if address < 0x8000 {

@@ -14,6 +14,7 @@ ghost use mathlib.Core.Bool.{Bool, true, false};
 ghost use mathlib.Core.List.{List};
 ghost use Prim.Native.Nat.{ℕ, _+_, _*_, _/_, _%_, _<_, _≤_};
 ghost use lib.ListN.{length, getD};
+ghost use Rattle.sensor.specs.Light.{byteAt};
 ghost use Rattle.timing.specs.Timing.{totalOf};
 ghost use Rattle.controller.specs.Capture.{moved, ended, running, ticks, from};
 ghost use Rattle.controller.specs.Outcome.{verdictNumber, outcome, tickOutcome};
@@ -77,7 +78,7 @@ impl Controller {
     // n cycles of a running capture.
     fn run(self, ram: &mut [u8], store: &[u8], n: u32) -> TickDone
         requires { ⌜ (running self ≡ true) × (self .elapsed .0 < totalOf (self .taken)) × (8192 ≤ length (now ram)) × (length (now store) ≡ 16384) ⌝ }
-        ensures { λ r. ⌜ tickOutcome r (now (ram .exit)) (now (store .entry)) ≡ ticked (now (store .entry)) (ticks (now (store .entry)) n (from self (now (ram .entry)))) ⌝ }
+        ensures { λ r. ⌜ tickOutcome r (now (ram .exit)) (now (store .entry)) ≡ ticked (now (store .entry)) (ticks (byteAt (now (store .entry))) n (from self (now (ram .entry)))) ⌝ }
     {
         let taken = self.taken;
         let elapsed = self.elapsed;

@@ -9,16 +9,18 @@ ghost use Rattle.controller.specs.Outcome.{writeNumber};
 ghost use Rattle.controller.specs.Picture.{afresh, pictureMeans};
 
 impl Controller {
-    // The picture afresh and whole, from a frame and 54 registers.
-    pub fn picture(frame: &[u8], regs: [u8; 54], out: &mut [u8; 3584]) -> WriteAnswer
-        ensures { λ r. ⌜ afresh (writeNumber r) (now (out .exit)) ≡ pictureMeans (now (frame .entry)) regs (now (out .entry)) ⌝ }
+    // The picture afresh and whole, from an image, which is lit first, and 54 registers.
+    pub fn picture(image: &[u8], regs: [u8; 54], out: &mut [u8; 3584]) -> WriteAnswer
+        ensures { λ r. ⌜ afresh (writeNumber r) (now (out .exit)) ≡ pictureMeans (now (image .entry)) regs (now (out .entry)) ⌝ }
     {
-        let verdict = no_frame(frame.len(), Verdict::Fits);
+        let verdict = no_frame(image.len(), Verdict::Fits);
         if let Verdict::Refused(why) = verdict {
             return WriteAnswer::Refused(why);
         }
         let set = Setting::of(&regs);
-        tiles::fill(frame, set, &regs, out);
+        let mut lit = [0u8; 16384];
+        sensor::light_frame(image, set, &mut lit);
+        tiles::fill(&lit, set, &regs, out);
         WriteAnswer::Done
     }
 }

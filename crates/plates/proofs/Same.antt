@@ -61,17 +61,17 @@ module _ (ram ram′ : List ℕ) (long : 8192 ≤ length ram) (long′ : 8192 �
   )
 
 -- where the area is the picture afresh, the RAM shows its shades
-pub afresh-alike : (frame regs ram : List ℕ) → 8192 ≤ length ram → Bytes ram → areaOf ram ≡ pictureOf frame regs → Alike (shadeIn ram) (pictureShade frame regs)
-afresh-alike frame regs ram long bytes e x y hx hy =
+pub afresh-alike : (lit : ℕ → ℕ → ℕ) (regs ram : List ℕ) → 8192 ≤ length ram → Bytes ram → areaOf ram ≡ pictureOf lit regs → Alike (shadeIn ram) (pictureShade lit regs)
+afresh-alike lit regs ram long bytes e x y hx hy =
     let k : ℕ = 128 * y + x in
     let a : k % 128 ≡ x = omega arith in
     let b : k / 128 ≡ y = omega arith in
-    area-alike ram (pixels frame regs 0 14336 ram) (e ∙ sym (pixels-whole frame regs ram long bytes)) x y hx hy
-    ∙ rw (a, b) at (pixels-passed frame regs 0 14336 ram (omega arith) long k (omega arith) (omega arith))
+    area-alike ram (pixels lit regs 0 14336 ram) (e ∙ sym (pixels-whole lit regs ram long bytes)) x y hx hy
+    ∙ rw (a, b) at (pixels-passed lit regs 0 14336 ram (omega arith) long k (omega arith) (omega arith))
 
 -- and the file is that of the picture afresh
-pub afresh-plate : (frame regs ram : List ℕ) → 8192 ≤ length ram → Bytes ram → areaOf ram ≡ pictureOf frame regs → plateOf ram ≡ plateAfresh frame regs
+pub afresh-plate : (lit : ℕ → ℕ → ℕ) (regs ram : List ℕ) → 8192 ≤ length ram → Bytes ram → areaOf ram ≡ pictureOf lit regs → plateOf ram ≡ plateAfresh lit regs
 unfolding plateOf plateAfresh greyAt
-afresh-plate frame regs ram long bytes e =
+afresh-plate lit regs ram long bytes e =
     ap (λ (l : List ℕ). header ++ l)
-    (listed-ext _ _ 14336 (λ k h. ap greyOf (afresh-alike frame regs ram long bytes e (k % 128) (k / 128) (omega arith) (omega arith))))
+    (listed-ext _ _ 14336 (λ k h. ap greyOf (afresh-alike lit regs ram long bytes e (k % 128) (k / 128) (omega arith) (omega arith))))

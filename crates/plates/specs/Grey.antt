@@ -24,9 +24,9 @@ greyAt ram k = greyOf (shadeNth ram k)
 unfoldable pub plateOf : List ℕ → List ℕ
 plateOf ram = header ++ listed (greyAt ram) 14336
 
--- the file of the picture afresh, from a frame and 54 registers
-unfoldable pub plateAfresh : List ℕ → List ℕ → List ℕ
-plateAfresh frame regs = header ++ listed (λ k. greyOf (pictureShade frame regs (k % 128) (k / 128))) 14336
+-- the file of the picture afresh, from lit values and 54 registers
+unfoldable pub plateAfresh : (ℕ → ℕ → ℕ) → List ℕ → List ℕ
+plateAfresh lit regs = header ++ listed (λ k. greyOf (pictureShade lit regs (k % 128) (k / 128))) 14336
 
 -- Refusals: 3 first, then 7 for a shorter buffer
 unfoldable pub exportRows : List ℕ → List ℕ → List Row

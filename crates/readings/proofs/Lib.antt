@@ -1,2 +1,3 @@
 -- Laws of the readings.
 pub mod Values
+pub mod Light

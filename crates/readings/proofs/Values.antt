@@ -10,6 +10,7 @@ use borrow.Author.Tests.{ltb-false}
 use Rattle.laws.specs.Lists.{listed}
 use Rattle.laws.proofs.Bools.{not-fails}
 use Rattle.laws.proofs.Packed.{listed-at}
+use Rattle.sensor.specs.Light.{byteAt}
 use Rattle.sensor.specs.Shade.{shadeOf, shadeAt}
 use Rattle.tiles.specs.Tiles.{shadeIn, areaOf, Bytes}
 use Rattle.tiles.specs.Picture.{pictureOf}
@@ -26,10 +27,10 @@ use Rattle.plates.proofs.Same.{afresh-alike}
 
 module _ (c : Controller) (store out : List ℕ) where
   -- readings are refused by the lowest number of their rows, and only then
-  pub readings-refuse : Refuses (readingRows c store out) inExported (λ n. exported n 0 out) (readingsMean c store out) (exported 0 14351 (readingsOf store (c .taken) ++ drop 14351 out))
+  pub readings-refuse : Refuses (readingRows c store out) inExported (λ n. exported n 0 out) (readingsMean c store out) (exported 0 14351 (readingsOf (byteAt store) (c .taken) ++ drop 14351 out))
   unfolding readingRows readingsMean risingFrom
   readings-refuse =
-      refuses (readingRows c store out) inExported (λ n. exported n 0 out) (exported 0 14351 (readingsOf store (c .taken) ++ drop 14351 out)) (λ n. refl) refl refl
+      refuses (readingRows c store out) inExported (λ n. exported n 0 out) (exported 0 14351 (readingsOf (byteAt store) (c .taken) ++ drop 14351 out)) (λ n. refl) refl refl
 
   -- what is so where they are not
   pub record ReadingsFit : Type 0 where
@@ -61,16 +62,16 @@ same-row regs x y v =
     let e : (y + 8) % 4 ≡ y % 4 = omega arith in
     rw e
 
-module _ (frame regs ram : List ℕ) (long : 8192 ≤ length ram) (bytes : Bytes ram) (finished : areaOf ram ≡ pictureOf frame regs) where
+module _ (lit : ℕ → ℕ → ℕ) (regs ram : List ℕ) (long : 8192 ≤ length ram) (bytes : Bytes ram) (finished : areaOf ram ≡ pictureOf lit regs) where
   -- the shade at each pixel of the finished plate is the matrix's answer to its value
-  pub explained : (k : ℕ) → k < 14336 → shadeIn ram (k % 128) (k / 128) ≡ shadeOf regs (k % 128) (k / 128) (getD (readingsOf frame regs) (15 + k) 0)
+  pub explained : (k : ℕ) → k < 14336 → shadeIn ram (k % 128) (k / 128) ≡ shadeOf regs (k % 128) (k / 128) (getD (readingsOf lit regs) (15 + k) 0)
   unfolding readingsOf reading shadeAt
   explained k h =
-      afresh-alike frame regs ram long bytes finished (k % 128) (k / 128) (omega arith) (omega arith)
+      afresh-alike lit regs ram long bytes finished (k % 128) (k / 128) (omega arith) (omega arith)
       ∙ same-row regs (k % 128) (k / 128) _
-      ∙ sym (ap (shadeOf regs (k % 128) (k / 128)) (pixel-in (reading frame regs) k h))
+      ∙ sym (ap (shadeOf regs (k % 128) (k / 128)) (pixel-in (reading lit regs) k h))
 
   -- and so is the grey at each pixel of its file, as a shade
-  pub explained-file : (k : ℕ) → k < 14336 → getD (plateOf ram) (15 + k) 0 ≡ greyOf (shadeOf regs (k % 128) (k / 128) (getD (readingsOf frame regs) (15 + k) 0))
+  pub explained-file : (k : ℕ) → k < 14336 → getD (plateOf ram) (15 + k) 0 ≡ greyOf (shadeOf regs (k % 128) (k / 128) (getD (readingsOf lit regs) (15 + k) 0))
   unfolding plateOf greyAt
   explained-file k h = pixel-in (greyAt ram) k h ∙ ap greyOf (explained k h)

@@ -15,6 +15,7 @@ ghost use Prim.Native.Nat.{ℕ, _≤_};
 ghost use lib.ListN.{length, drop};
 ghost use Rattle.laws.specs.Lists.{listed};
 ghost use Rattle.sensor.specs.Taken.{Asked};
+ghost use Rattle.sensor.specs.Light.{byteAt};
 ghost use Rattle.controller.specs.Outcome.{verdictNumber};
 ghost use Rattle.controller.specs.Table.{lowest};
 ghost use Rattle.shades.specs.Shades.{outputNumber, outputValue, exported};
@@ -24,7 +25,7 @@ ghost use Rattle.readings.specs.Readings.{reading, readingsOf, readingRo
 fn put_values(store: &[u8], set: Setting, regs: &[u8; 54], values: &mut [u8])
     requires { ⌜ (length (now store) ≡ 16384) × (length (now values) ≡ 14336) ⌝ }
     requires { ⌜ Asked set (now regs) ⌝ }
-    ensures { λ _. ⌜ now (values .exit) ≡ listed (reading (now (store .entry)) (now (regs .entry))) 14336 ⌝ }
+    ensures { λ _. ⌜ now (values .exit) ≡ listed (reading (byteAt (now (store .entry))) (now (regs .entry))) 14336 ⌝ }
 {
     for k in 0..tiles::PIXELS {
         let pixel = sensor::pixel_at(store, set, regs, k % 128, k / 128 + 8);
@@ -35,7 +36,7 @@ fn put_values(store: &[u8], set: Setting, regs: &[u8; 54], values: &mut [u8])
 // The file, at the start of a buffer that has room for it.
 fn put_readings(store: &[u8], regs: &[u8; 54], out: &mut [u8])
     requires { ⌜ (length (now store) ≡ 16384) × (14351 ≤ length (now out)) ⌝ }
-    ensures { λ _. ⌜ now (out .exit) ≡ readingsOf (now (store .entry)) (now (regs .entry)) ++ drop 14351 (now (out .entry)) ⌝ }
+    ensures { λ _. ⌜ now (out .exit) ≡ readingsOf (byteAt (now (store .entry))) (now (regs .entry)) ++ drop 14351 (now (out .entry)) ⌝ }
 {
     put_header(&mut out[0..15]);
     put_values(store, Setting::of(regs), regs, &mut out[15..14351]);

@@ -6,8 +6,8 @@ use lib.IntN.{ℤ, pos, negsuc, natAbs, _+ℤ_}
 use lib.Dec.{eqb}
 use lib.ListN.{length, getD, replicate}
 use Rattle.laws.specs.Pick.{pick}
-use Rattle.sensor.specs.Taken.{modeOf, quartersOf, kindOf}
-use Rattle.sensor.specs.Light.{adaptedZ}
+use Rattle.sensor.specs.Taken.{settingOf, modeOf, quartersOf, kindOf}
+use Rattle.sensor.specs.Light.{adaptedZ, litOf}
 use Rattle.sensor.specs.Edge.{edgeOf}
 use Rattle.sensor.specs.Row.{rowFilter}
 use Rattle.sensor.specs.Shade.{shadeOf}
@@ -41,9 +41,9 @@ registers a0 a1 a2 a3 a4 = a0 ∷ a1 ∷ a2 ∷ a3 ∷ a4 ∷ replicate 49 0
 abbrev pub matrix : ℕ → ℕ → ℕ → List ℕ
 matrix low mid high = 0 ∷ 0 ∷ 0 ∷ 0 ∷ 0 ∷ 0 ∷ low ∷ mid ∷ high ∷ replicate 45 0
 
--- the picture's first byte, FF before, after what cycle e of a capture writes; at exposure 0 the frame's light counts for nothing
+-- the picture's first byte, FF before, after what cycle e of a capture writes; at exposure 0 the image counts for nothing
 abbrev pub firstByte : List ℕ → ℕ → ℕ
-firstByte regs e = getD (writtenAt [] regs e (replicate 0x102 0xFF)) 0x100 0
+firstByte regs e = getD (writtenAt (litOf [] (settingOf regs)) regs e (replicate 0x102 0xFF)) 0x100 0
 
 -- the first cycle, of n from e on, that changes it
 unfoldable pub firstCycle : List ℕ → ℕ → ℕ → ℕ

@@ -3,6 +3,7 @@ use mathlib.Core.Path.{_≡_, ap}
 use Prim.Native.Nat.{ℕ, _-_, _≤_}
 use native.Mathlib.Omega.{arith}
 use Rattle.laws.proofs.Filled.{Filled, filled-none, filled-more, filled-end}
+use Rattle.sensor.specs.Light.{byteAt}
 use Rattle.sensor.specs.declared.Pixel.{Pixel}
 use Rattle.readings.specs.Readings.{reading}
 use borrow.Author.Needs.{needs}
@@ -10,7 +11,7 @@ use Rattle.readings.proofs.put_values.Statement.{statement}
 use Rattle.readings.proofs.put_values.Tie as tie
 
 abbrev Inv-loop : tie.InvT-loop
-Inv-loop store set regs values₀ k₀ values k = (k ≤ 14336) × Filled (reading store regs) 14336 k values
+Inv-loop store set regs values₀ k₀ values k = (k ≤ 14336) × Filled (reading (byteAt store) regs) 14336 k values
 
 abbrev μ-loop : tie.MeasureT-loop
 μ-loop store set regs values₀ k₀ values k = 14336 - k

@@ -1,30 +1,23 @@
--- `controller::Controller::capture_write` meets its contract. Assumes nothing.
-use Rattle.controller.specs.Bus.{captureWritten, storeWritten, withRegister}
-use mathlib.Core.Path.{sym, _∙_}
+-- `controller::Controller::capture_write` meets its contract: a start lights the image by the registers that it takes. Assumes nothing.
+use mathlib.Core.Path.{sym, ap, _∙_}
 use borrow.Author.Needs.{needs}
+use Rattle.sensor.specs.Taken.{settingOf}
+use Rattle.sensor.specs.Light.{lightFrame}
+use Rattle.controller.specs.declared.Controller.{Controller}
+use Rattle.controller.specs.Capture.{begun}
+use Rattle.controller.specs.Bus.{captureWritten, storeWritten, withRegister}
 use Rattle.controller.proofs.Controller.capture_write.Statement.{statement}
 use Rattle.controller.proofs.Controller.capture_write.Tie as tie
 
-is-start-requires : tie.Need-is-start-requires
-is-start-requires c κs = search needs
-
-copy-frame-requires : tie.Need-copy-frame-requires
-copy-frame-requires c κs = search needs
-
-begin-requires : tie.Need-begin-requires
-begin-requires c κs = search needs
-
-same-length : tie.Need-same-length
-same-length c = search needs
-
 returns : tie.Need-returns
-unfolding captureWritten storeWritten
+unfolding captureWritten storeWritten begun
 returns c =
-    let start = sym (c .before .before .before .before .before .before .is-start .ensures) ∙ c .before .before .before .before .before .if1 .taken in
-    (simp (start, c .begin .ensures), simp start (c .before .before .before .copy-frame .ensures))
-
-element-write-self : tie.Need-element-write-self
-element-write-self c = search needs
+    let l = c .before .before in
+    let o = l .before .before in
+    let b = o .before .before .before in
+    let start = sym (b .before .before .is-start .ensures) ∙ b .before .if1 .taken in
+    let set = o .of .ensures .same ∙ ap (λ (n : Controller). settingOf (n .taken)) (b .begin .ensures) in
+    (simp (start, b .begin .ensures), simp start (l .light-frame .ensures ∙ ap (lightFrame _) set))
 
 returns-2 : tie.Need-returns-2
 unfolding captureWritten storeWritten withRegister
@@ -34,10 +27,11 @@ pub capture-write-spec : {M : Type 1} → statement M
 capture-write-spec =
     tie.close
     (tie.spec
-    is-start-requires
-    copy-frame-requires
-    begin-requires
-    same-length
+    (λ c κs. search needs)
+    (λ c κs. search needs)
+    (λ c κs. search needs)
+    (λ c κs. search needs)
+    (λ c. search needs)
     returns
-    element-write-self
+    (λ c. search needs)
     returns-2)

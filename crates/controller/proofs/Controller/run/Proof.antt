@@ -2,6 +2,7 @@
 use mathlib.Core.Path.{_∙_}
 use native.Mathlib.Omega.{arith}
 use borrow.Author.Needs.{needs}
+use Rattle.sensor.specs.Light.{byteAt}
 use Rattle.controller.proofs.Ticks.{going-outcome, over-outcome}
 use Rattle.controller.proofs.Controller.run.Statement.{statement}
 use Rattle.controller.proofs.Controller.run.Tie as tie
@@ -13,7 +14,7 @@ returns c =
     let s = t .before .before .before .before .before .before in
     let a = s .args in
     c .ran .ensures _ _
-    ∙ going-outcome (a .store .now) (a .self) (a .ram .now) (s .pre .0) (a .n) _ _ (omega (arith, t .total .ensures .0)) (c .before .moved-to .ensures) (w .write-between .ensures)
+    ∙ going-outcome (byteAt (a .store .now)) (a .self) (a .ram .now) (s .pre .0) (a .store .now) (a .n) _ _ (omega (arith, t .total .ensures .0)) (c .before .moved-to .ensures) (w .write-between .ensures)
 
 returns-2 : tie.Need-returns-2
 returns-2 c =
@@ -22,7 +23,7 @@ returns-2 c =
     let s = t .before .before .before .before .before .before in
     let a = s .args in
     c .ran2 .ensures _ _
-    ∙ over-outcome (a .store .now) (a .self) (a .ram .now) (s .pre .0) (a .n) _ _ _ (s .pre .1) (t .total .ensures .0) (omega arith) (c .before .at-end .ensures) (w .write-between2 .ensures)
+    ∙ over-outcome (byteAt (a .store .now)) (a .self) (a .ram .now) (s .pre .0) (a .store .now) (a .n) _ _ _ (s .pre .1) (t .total .ensures .0) (omega arith) (c .before .at-end .ensures) (w .write-between2 .ensures)
 
 pub run-spec : {M : Type 1} → statement M
 run-spec =

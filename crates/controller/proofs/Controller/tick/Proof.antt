@@ -3,6 +3,7 @@ use mathlib.Core.Path.{_≡_, sym, ap, _∙_}
 use mathlib.Core.Bool.{true, false}
 use lib.ListN.{length}
 use Rattle.laws.proofs.Bools.{left-out, let-in, both-left}
+use Rattle.sensor.specs.Light.{byteAt}
 use Rattle.controller.specs.Calls.{ticked, tickMeans}
 use Rattle.controller.specs.Capture.{ticks, from}
 use Rattle.timing.proofs.Lent.{ram-lent, frame-lent}
@@ -20,7 +21,7 @@ start e = e .before .before .before .before .before .before
 fits : (e : tie.After-enum-told) → TickFits (start e .args .self) (start e .args .ram .now) (start e .args .store .now)
 fits e = tick-fits _ _ _ (fits-none _ _ (e .before .before .judge-tick .ensures) (e .enum-told .given .1))
 
-means : (e : tie.After-enum-told) → ticked (start e .args .store .now) (ticks (start e .args .store .now) (start e .args .n) (from (start e .args .self) (start e .args .ram .now)))
+means : (e : tie.After-enum-told) → ticked (start e .args .store .now) (ticks (byteAt (start e .args .store .now)) (start e .args .n) (from (start e .args .self) (start e .args .ram .now)))
     ≡ tickMeans (start e .args .self) (start e .args .ram .now) (start e .args .store .now) (start e .args .n)
 means e = by-fits (tick-refuses _ _ _ (start e .args .n)) _ (e .before .before .judge-tick .ensures) (e .enum-told .given .1)
 
@@ -32,7 +33,7 @@ returns-2 c =
     let e = c .before .before .before in
     let a = start e .args in
     c .ran .ensures _ _
-    ∙ ap (ticked (a .store .now)) (sym (idle (a .store .now) _ (a .n) (left-out (c .before .before .is-running .ensures) (c .before .if1 .taken))))
+    ∙ ap (ticked (a .store .now)) (sym (idle (byteAt (a .store .now)) _ (a .n) (left-out (c .before .before .is-running .ensures) (c .before .if1 .taken))))
     ∙ means e
 
 run-requires : tie.Need-run-requires

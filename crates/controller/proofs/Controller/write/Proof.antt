@@ -1,5 +1,5 @@
 -- `controller::Controller::write` meets its contract: it is judged, and then done. Assumes nothing.
-use mathlib.Core.Path.{_≡_, sym, ap, _∙_}
+use mathlib.Core.Path.{_≡_, ap, _∙_}
 use Rattle.controller.specs.Calls.{wrote}
 use Rattle.timing.proofs.Lent.{frame-lent}
 use Rattle.controller.proofs.Refusals.{write-refuses, by-why, by-fits, fits-none, write-fits}
@@ -13,7 +13,7 @@ returns c = by-why (write-refuses _ _ _ _ _ _) _ (c .before .before .before .jud
 byte-write-requires : tie.Need-byte-write-requires
 byte-write-requires c κs =
     let f = write-fits _ _ _ _ _ (fits-none _ _ (c .before .before .before .before .judge-write .ensures) (c .before .before .enum-told .given .1)) in
-    (f .ram-fits, frame-lent _ (f .store-fits) ∙ sym (frame-lent _ (f .image-fits)))
+    (f .ram-fits, frame-lent _ (f .store-fits), frame-lent _ (f .image-fits))
 
 returns-2 : tie.Need-returns-2
 returns-2 c =
