@@ -8,6 +8,8 @@ use lib.Dec.{eqb, ltb}
 use lib.ListN.{length}
 use Rattle.laws.specs.Pick.{pick}
 use Rattle.laws.proofs.Pick.{pick-ind}
+use Rattle.sensor.specs.Taken.{settingOf}
+use Rattle.sensor.specs.Light.{lightFrame}
 use Rattle.controller.specs.declared.Controller.{Controller}
 use Rattle.timing.specs.Lent.{ramAllowed, frameAllowed}
 use Rattle.controller.specs.State.{cantExist, resetState, oneMore}
@@ -48,7 +50,7 @@ parted P m n true false true false new false x b y z r ram store store′ w px p
 abbrev upTo : Bool → Bool → ℕ → ℕ
 upTo back more n = pick back 0 (pick more (oneMore n) n)
 
-module _ (w : World) (im : List ℕ) (own : w .state .held ≡ true → w .store ≡ im) (exists : cantExist (w .state) ≡ false) where
+module _ (w : World) (im : List ℕ) (own : w .state .held ≡ true → w .store ≡ lightFrame im (settingOf (w .state .taken))) (exists : cantExist (w .state) ≡ false) where
   abbrev c : Controller
   c = w .state
 

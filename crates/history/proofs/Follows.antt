@@ -11,7 +11,9 @@ use lib.Seq.{getD-set-same, getD-set-other}
 use borrow.Author.Tests.{ne-eqb, eq-eqb, eqb-true, eqb-false}
 use Rattle.laws.specs.Pick.{pick}
 use Rattle.laws.proofs.Order.{split}
-use Rattle.sensor.specs.Taken.{exposureOf}
+use Rattle.sensor.specs.Taken.{exposureOf, settingOf}
+use Rattle.sensor.specs.Light.{lightFrame, byteAt}
+use Rattle.sensor.proofs.Lit.{light-length}
 use Rattle.laws.proofs.Pick.{pick-ind}
 use Rattle.controller.specs.declared.Controller.{Controller}
 use Rattle.timing.specs.Timing.{totalOf}
@@ -86,11 +88,9 @@ pub ram-length : (c : Controller) (ram : List ℕ) (a v : ℕ) → length (ramWr
 unfolding ramWritten
 ram-length c ram a v = pick-ind (λ (r : List ℕ). length r ≡ length ram) (ramWritable c) (λ _. length-set ram _ v) (λ _. refl)
 
--- two frames of the size allowed
-sizes : (store image : List ℕ) → (frameAllowed (length store) && frameAllowed (length image)) ≡ true → length store ≡ length image
-sizes store image h =
-    frame-lent (length store) (both-left (frameAllowed (length store)) (frameAllowed (length image)) h)
-    ∙ sym (frame-lent (length image) (both-right (frameAllowed (length store)) (frameAllowed (length image)) h))
+-- a frame store of the size allowed
+store-size : (store image : List ℕ) → (frameAllowed (length store) && frameAllowed (length image)) ≡ true → length store ≡ 16384
+store-size store image h = frame-lent (length store) (both-left (frameAllowed (length store)) (frameAllowed (length image)) h)
 
 -- ---- a tick
 
@@ -104,7 +104,7 @@ module _ (w : World) (n : ℕ) (exists : cantExist (w .state) ≡ false) where
   lent = ramAllowed (length (w .ram)) && frameAllowed (length (w .store))
 
   abbrev moving : Ticking
-  moving = ticks (w .store) n (from (w .state) (w .ram))
+  moving = ticks (byteAt (w .store)) n (from (w .state) (w .ram))
 
   pub tick-leaves : leaves w (tick n) ≡ pick lent (record { state = moving .state; ram = moving .ram; store = w .store }) w
   unfolding leaves tickMeans
@@ -120,7 +120,7 @@ module _ (w : World) (n : ℕ) (exists : cantExist (w .state) ≡ false) where
 
 -- ---- call by call
 
-module _ (w : World) (im : List ℕ) (own : w .state .held ≡ true → w .store ≡ im) where
+module _ (w : World) (im : List ℕ) (own : w .state .held ≡ true → w .store ≡ lightFrame im (settingOf (w .state .taken))) where
   abbrev c : Controller
   c = w .state
 
@@ -162,20 +162,20 @@ module _ (w : World) (im : List ℕ) (own : w .state .held ≡ true → w .store
   parted false q true x y z u ram image store = refl
   parted false q false x y z u ram image store = refl
 
-  begun-told : (image : List ℕ) (v : ℕ) → length (w .store) ≡ length image
-      → Told (beginning (seen w im) image (set (c .registers) 0 v)) (record { state = begun c v; ram = w .ram; store = image })
+  begun-told : (image : List ℕ) (v : ℕ) → length (w .store) ≡ 16384
+      → Told (beginning (seen w im) image (set (c .registers) 0 v)) (record { state = begun c v; ram = w .ram; store = lightFrame image (settingOf (set (c .registers) 0 v)) })
   unfolding beginning begun
-  begun-told image v e = record { same = rw e; own = λ _. refl }
+  begun-told image v e = record { same = rw (e ∙ sym (light-length image (settingOf (set (c .registers) 0 v)))); own = λ _. refl }
 
   abbrev LeftTold : Track → Left → Type 0
   LeftTold t l = Told t (worldOf l)
 
-  registers-told : (image : List ℕ) (i v : ℕ) → length (w .store) ≡ length image
+  registers-told : (image : List ℕ) (i v : ℕ) → length (w .store) ≡ 16384
       → LeftTold (registered (seen w im) image i v) (left (registerWritten c i v) (w .ram) (storeWritten c (w .store) image i v))
   unfolding registered registerWritten captureWritten storeWritten isStart
   registers-told image i v e =
       subst (LeftTold (registered (seen w im) image i v))
-      (sym (parted (eqb i 0) (eqb (v % 2) 1 && not (c .held)) (ltb i 54) (begun c (v % 8)) (withRegister c 0 (v % 8)) (withRegister c i v) c (w .ram) image (w .store)))
+      (sym (parted (eqb i 0) (eqb (v % 2) 1 && not (c .held)) (ltb i 54) (begun c (v % 8)) (withRegister c 0 (v % 8)) (withRegister c i v) c (w .ram) (lightFrame image (settingOf (set (c .registers) 0 (v % 8)))) (w .store)))
       (paired LeftTold (eqb i 0)
       (λ _. paired LeftTold (eqb (v % 2) 1 && not (c .held)) (λ _. begun-told image (v % 8) e) (λ _. stored-told 0 (v % 8)))
       (λ _. paired LeftTold (ltb i 54) (λ _. stored-told i v) (λ _. stays)))
@@ -183,7 +183,7 @@ module _ (w : World) (im : List ℕ) (own : w .state .held ≡ true → w .store
   ram-told : (a v : ℕ) → Told (seen w im) (record { state = c; ram = ramWritten c (w .ram) a v; store = w .store })
   ram-told a v = record { same = rw (ram-length c (w .ram) a v); own = own }
 
-  written-told : (image : List ℕ) (a v : ℕ) → length (w .store) ≡ length image
+  written-told : (image : List ℕ) (a v : ℕ) → length (w .store) ≡ 16384
       → LeftTold (written (seen w im) image a v) (byteWritten c (w .ram) (w .store) image a v)
   unfolding written byteWritten
   written-told image a v e =
@@ -200,7 +200,7 @@ module _ (w : World) (im : List ℕ) (own : w .state .held ≡ true → w .store
     write-told image a v =
         rw (write-leaves w image a v exists)
         (paired Told (ramAllowed (length (w .ram)) && (frames image && onCartridge a))
-        (λ ok. written-told image a v (sizes (w .store) image (both-left (frames image) (onCartridge a) (both-right (ramAllowed (length (w .ram))) (frames image && onCartridge a) ok))))
+        (λ ok. written-told image a v (store-size (w .store) image (both-left (frames image) (onCartridge a) (both-right (ramAllowed (length (w .ram))) (frames image && onCartridge a) ok))))
         (λ _. stays))
 
     -- what a tick comes to, by the calls alone
@@ -209,7 +209,7 @@ module _ (w : World) (im : List ℕ) (own : w .state .held ≡ true → w .store
       pub count : countIn (answers w (tick n)) ≡ runsIn (seen w im) (tick n)
       pub starts-kept : leaves w (tick n) .state .started ≡ c .started
       pub ends-told : leaves w (tick n) .state .ended ≡ pick (ends (seen w im) (tick n)) (oneMore (c .ended)) (c .ended)
-      pub ram : leaves w (tick n) .ram ≡ pixels (w .store) (c .taken) (doneBy (c .taken) (c .elapsed .0)) (doneBy (c .taken) (c .elapsed .0 + runsIn (seen w im) (tick n))) (w .ram)
+      pub ram : leaves w (tick n) .ram ≡ pixels (byteAt (w .store)) (c .taken) (doneBy (c .taken) (c .elapsed .0)) (doneBy (c .taken) (c .elapsed .0 + runsIn (seen w im) (tick n))) (w .ram)
 
     module _ (n : ℕ) where
       abbrev e : ℕ
@@ -261,7 +261,7 @@ module _ (w : World) (im : List ℕ) (own : w .state .held ≡ true → w .store
         count = k ∙ sym z;
         starts-kept = rw l;
         ends-told = rw (l, ends-still z);
-        ram = rw (z, add-zero, l, pixels-none (w .store) (c .taken) (doneBy (c .taken) e) (w .ram));
+        ram = rw (z, add-zero, l, pixels-none (byteAt (w .store)) (c .taken) (doneBy (c .taken) e) (w .ram));
       }
 
       -- a tick that is refused
@@ -284,8 +284,8 @@ module _ (w : World) (im : List ℕ) (own : w .state .held ≡ true → w .store
         unfolding runsIn tickAccepted
         resting off =
             still (rw (ok, off))
-            (tick-leaves w n exists ∙ rw (ok, idle (w .store) (from c (w .ram)) n off))
-            (tick-count w n exists ∙ rw (ok, idle (w .store) (from c (w .ram)) n off))
+            (tick-leaves w n exists ∙ rw (ok, idle (byteAt (w .store)) (from c (w .ram)) n off))
+            (tick-count w n exists ∙ rw (ok, idle (byteAt (w .store)) (from c (w .ram)) n off))
 
         module _ (on : capture.running c ≡ true) where
           runs-min : runs ≡ min n (total - e)
@@ -297,9 +297,9 @@ module _ (w : World) (im : List ℕ) (own : w .state .held ≡ true → w .store
           unfolding moved
           onward l =
               let z : runs ≡ n = runs-min ∙ omega arith in
-              let g = going (w .store) c (w .ram) on n l in
+              let g = going (byteAt (w .store)) c (w .ram) on n l in
               record {
-                told = rw (next-on z l, tick-leaves w n exists, ok, g) (on-told _ (pixels-length (w .store) (c .taken) _ _ (w .ram)));
+                told = rw (next-on z l, tick-leaves w n exists, ok, g) (on-told _ (pixels-length (byteAt (w .store)) (c .taken) _ _ (w .ram)));
                 count = tick-count w n exists ∙ rw (ok, g, z);
                 starts-kept = rw (tick-leaves w n exists, ok, g);
                 ends-told = rw (tick-leaves w n exists, ok, g, ends-on z l);
@@ -312,14 +312,14 @@ module _ (w : World) (im : List ℕ) (own : w .state .held ≡ true → w .store
           ending-told b l =
               let z : runs ≡ total - e = runs-min ∙ omega arith in
               let whole : total ≡ e + (total - e) = omega arith in
-              let g = over (w .store) c (w .ram) on n b (omega arith) in
+              let g = over (byteAt (w .store)) c (w .ram) on n b (omega arith) in
               let h = both-left (c .held) (started (c .registers)) on in
               record {
-                told = rw (next-over h z b, tick-leaves w n exists, ok, g) (over-told _ (pixels-length (w .store) (c .taken) _ _ (w .ram)));
+                told = rw (next-over h z b, tick-leaves w n exists, ok, g) (over-told _ (pixels-length (byteAt (w .store)) (c .taken) _ _ (w .ram)));
                 count = tick-count w n exists ∙ rw (ok, g, z);
                 starts-kept = rw (tick-leaves w n exists, ok, g);
                 ends-told = rw (tick-leaves w n exists, ok, g, ends-over h z b);
-                ram = rw (tick-leaves w n exists, ok, g, z) (ap (λ (k : ℕ). pixels (w .store) (c .taken) (doneBy (c .taken) e) (doneBy (c .taken) k) (w .ram)) whole);
+                ram = rw (tick-leaves w n exists, ok, g, z) (ap (λ (k : ℕ). pixels (byteAt (w .store)) (c .taken) (doneBy (c .taken) e) (doneBy (c .taken) k) (w .ram)) whole);
               }
 
       pub tick-told : Ticked n
@@ -418,10 +418,10 @@ module _ (w : World) (im : List ℕ) (own : w .state .held ≡ true → w .store
 
     -- a call's pixels, by the calls alone
     abbrev put : Call → List ℕ
-    put k = pixels (w .store) (c .taken) (doneBy (c .taken) (c .elapsed .0)) (doneBy (c .taken) (c .elapsed .0 + runsIn (seen w im) k)) (w .ram)
+    put k = pixels (byteAt (w .store)) (c .taken) (doneBy (c .taken) (c .elapsed .0)) (doneBy (c .taken) (c .elapsed .0 + runsIn (seen w im) k)) (w .ram)
 
     none-put : (k : Call) → runsIn (seen w im) k ≡ 0 → put k ≡ w .ram
-    none-put k z = rw (z, add-zero, pixels-none (w .store) (c .taken) (doneBy (c .taken) (c .elapsed .0)) (w .ram))
+    none-put k z = rw (z, add-zero, pixels-none (byteAt (w .store)) (c .taken) (doneBy (c .taken) (c .elapsed .0)) (w .ram))
 
     landed : (ok low regs on free : Bool) (x y : Controller) (ram store′ r : List ℕ) (u : World) → u .ram ≡ ram
         → pick ok (worldOf (pick low (left x ram (w .store)) (pick regs (left y ram store′) (left c (pick (pick on false free) r ram) (w .store))))) u .ram
@@ -481,7 +481,7 @@ module _ (w : World) (im : List ℕ) (own : w .state .held ≡ true → w .store
     call-size (read rom a) = ap (λ (u : World). length (u .ram)) (read-leaves rom a)
     call-size (write image a v) =
         rw (write-ram image a v) (pick-ind (λ (r : List ℕ). length r ≡ length (w .ram)) (toRam (seen w im) image a) (λ _. length-set (w .ram) _ v) (λ _. refl))
-    call-size (tick n) = rw (tick-told n .ram) (pixels-length (w .store) (c .taken) _ _ (w .ram))
+    call-size (tick n) = rw (tick-told n .ram) (pixels-length (byteAt (w .store)) (c .taken) _ _ (w .ram))
     call-size inspect = refl
     call-size (choose light level plain exposure) = refl
     call-size (place file) =
@@ -500,7 +500,7 @@ unfolding atReset resetState
 at-reset ram store = record { told = record { same = refl; own = λ h. not-both h refl }; sound = reset-sound }
 
 module _ (t : Track) (w : World) (m : Moment t w) (k : Call) where
-  abbrev own : w .state .held ≡ true → w .store ≡ t .image
+  abbrev own : w .state .held ≡ true → w .store ≡ lightFrame (t .image) (settingOf (w .state .taken))
   own = m .told .own
 
   abbrev exists : cantExist (w .state) ≡ false
@@ -518,14 +518,14 @@ module _ (t : Track) (w : World) (m : Moment t w) (k : Call) where
 
   -- the RAM left: a byte that landed there, or else as the tick's pixels are put
   abbrev pub put-next : List ℕ
-  put-next = pixels (w .store) (t .taken) (doneBy (t .taken) (t .ran)) (doneBy (t .taken) (t .ran + runsIn t k)) (w .ram)
+  put-next = pixels (byteAt (w .store)) (t .taken) (doneBy (t .taken) (t .ran)) (doneBy (t .taken) (t .ran + runsIn t k)) (w .ram)
 
   pub byte-next : (p : ℕ) → getD (leaves w k .ram) p 0 ≡ pick (lands t k p) (byteIn k p) (getD put-next p 0)
   byte-next p =
       subst
       (λ (u : Track).
       getD (leaves w k .ram) p 0
-      ≡ pick (lands u k p) (byteIn k p) (getD (pixels (w .store) (u .taken) (doneBy (u .taken) (u .ran)) (doneBy (u .taken) (u .ran + runsIn u k)) (w .ram)) p 0))
+      ≡ pick (lands u k p) (byteIn k p) (getD (pixels (byteAt (w .store)) (u .taken) (doneBy (u .taken) (u .ran)) (doneBy (u .taken) (u .ran + runsIn u k)) (w .ram)) p 0))
       (sym (m .told .same))
       (call-byte w (t .image) own exists k p)
 

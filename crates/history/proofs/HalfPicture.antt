@@ -21,7 +21,7 @@ use Rattle.laws.proofs.Bools.{both-left, both-right}
 use Rattle.controller.proofs.Exists.{neither-left, neither-right}
 use Rattle.tiles.proofs.Area.{Stands, stands}
 use Rattle.history.specs.History.{Call, reset, read, write, tick, inspect, choose, place, World, fresh, leaves, after, counted}
-use Rattle.history.specs.Track.{Track, atReset, writeAccepted, runsIn, toRegisters, starts, imageIn, registersAt, toRam, inArea, lands, next, follow, told}
+use Rattle.history.specs.Track.{Track, atReset, writeAccepted, runsIn, toRegisters, starts, imageIn, registersAt, toRam, inArea, lands, next, follow, told, litBy}
 use Rattle.history.specs.Since.{Held, ofPixel, cycleOf, landed, Clear, goesOn}
 use Rattle.history.specs.Bits.{columnAt, rowAt, pixelAt, bitAt, sends, shadeSent, sentIn, lastSent}
 use Rattle.history.proofs.Picks.{not-both}
@@ -110,11 +110,11 @@ module _ (image regs : List ℕ) (p b was : ℕ) (here : inArea p ≡ true) wher
 
   -- after n cycles: the shade afresh if the pixel's cycle has run, and else what it was
   abbrev pub sent-by : ℕ → ℕ
-  sent-by n = pick (leb cycle n) (bitAt p (pictureShade image regs (columnAt p b) (rowAt p))) was
+  sent-by n = pick (leb cycle n) (bitAt p (pictureShade (litBy image regs) regs (columnAt p b) (rowAt p))) was
 
   -- r cycles more
   more-sent : (frame taken : List ℕ) (e n r : ℕ) → frame ≡ image → taken ≡ regs → e ≡ n
-      → pick (ltb e (cycleOf taken (pixelAt p b)) && leb (cycleOf taken (pixelAt p b)) (e + r)) (bitAt p (pictureShade frame taken (columnAt p b) (rowAt p))) (sent-by n)
+      → pick (ltb e (cycleOf taken (pixelAt p b)) && leb (cycleOf taken (pixelAt p b)) (e + r)) (bitAt p (pictureShade (litBy frame taken) taken (columnAt p b) (rowAt p))) (sent-by n)
       ≡ sent-by (n + r)
   more-sent frame taken e n r i t h =
       rw (i, t, h)
@@ -215,11 +215,11 @@ pub half-picture : (ram store : List ℕ) (before : List Call) (start : Call) (b
     → Clear (ofPixel j) (next (told ram store before) start) between
     → shadeIn (after (fresh ram store) (before ++ (start ∷ between)) .ram) (j % 128) (j / 128)
     ≡ pick (leb (cycleOf (registersAt (told ram store before) start) j) (counted (after (fresh ram store) before) (start ∷ between)))
-    (pictureShade (imageIn start) (registersAt (told ram store before) start) (j % 128) (j / 128))
+    (pictureShade (litBy (imageIn start) (registersAt (told ram store before) start)) (registersAt (told ram store before) start) (j % 128) (j / 128))
     (shadeIn (after (fresh ram store) before .ram) (j % 128) (j / 128))
 half-picture ram store before start between j most h c =
     let regs = registersAt (told ram store before) start in
-    let s = pictureShade (imageIn start) regs (j % 128) (j / 128) in
+    let s = pictureShade (litBy (imageIn start) regs) regs (j % 128) (j / 128) in
     let n = counted (after (fresh ram store) before) (start ∷ between) in
     shade-of-bits (after (fresh ram store) (before ++ (start ∷ between)) .ram) (after (fresh ram store) before .ram) j s most (leb (cycleOf regs j) n)
     (λ d bit.

@@ -1,9 +1,11 @@
--- While a capture is held, frame store and taken registers are those of its start. Assumes nothing.
-use mathlib.Core.Path.{_≡_, refl, sym, ap, _∙_}
+-- While a capture is held, the frame store is the light of the image lent at its start, and the taken registers are those of its start. Assumes nothing.
+use mathlib.Core.Path.{_≡_, refl, sym, ap, ap₂, _∙_}
 use mathlib.Core.Bool.{true, false}
 use mathlib.Core.List.{List, [], _∷_, _++_}
 use Prim.Native.Nat.{ℕ}
 use lib.ListN.{length}
+use Rattle.sensor.specs.Taken.{settingOf}
+use Rattle.sensor.specs.Light.{lightFrame}
 use Rattle.history.specs.History.{Call, fresh, after, counted}
 use Rattle.history.specs.Track.{Track, atReset, ends, starts, imageIn, registersAt, next, follow, told}
 use Rattle.history.specs.Since.{isReset, goesOn, Held, Whole, Begun, Own}
@@ -11,7 +13,7 @@ use Rattle.history.proofs.Picks.{by-test, not-both}
 use Rattle.history.proofs.Follows.{moment-next, told-true}
 use Rattle.history.proofs.Goes.{was-held, end-next, moment-now, on, same-world, now-last, world-last, moment-last, whole-world}
 
--- Own frame: any calls, a start, any calls through which its capture goes on: the frame store is the image lent at the start, the taken
+-- Own frame: any calls, a start, any calls through which its capture goes on: the store is the light of the image lent at the start, the taken
 -- registers are the registers at the start, and elapsed is the counts returned since, whatever was lent or written meanwhile
 pub own-frame : (ram store : List ℕ) (before : List Call) (start : Call) (between : List Call)
     → Held (told ram store before) start between
@@ -21,11 +23,12 @@ own-frame ram store before start between h =
     let o = on ram store before start between h in
     let s = m .told .same in
     let held = sym (ap (λ (u : Track). u .held) s) ∙ o .held in
+    let taken = sym (ap (λ (u : Track). u .taken) s) ∙ o .taken in
     rw (same-world ram store before start between h)
     (record {
       held = held;
-      store = m .told .own held ∙ o .image;
-      taken = sym (ap (λ (u : Track). u .taken) s) ∙ o .taken;
+      store = m .told .own held ∙ ap₂ (λ (image regs : List ℕ). lightFrame image (settingOf regs)) (o .image) taken;
+      taken = taken;
       elapsed = sym (ap (λ (u : Track). u .ran) s) ∙ o .ran;
     })
 

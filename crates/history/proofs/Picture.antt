@@ -11,6 +11,7 @@ use lib.Seq.{getD-take, getD-drop, ext-getD}
 use borrow.Author.Tests.{ltb-true, lt-ltb, le-leb, not-true}
 use Rattle.laws.specs.Bits.{bitOf}
 use Rattle.laws.proofs.Pick.{pick-ind}
+use Rattle.sensor.specs.Light.{byteAt}
 use Rattle.timing.specs.Lent.{ramAllowed}
 use Rattle.tiles.specs.Tiles.{shadeIn, areaOf, Bytes}
 use Rattle.tiles.specs.Picture.{pictureShade, pictureOf}
@@ -25,7 +26,7 @@ use Rattle.plates.specs.Grey.{plateOf, plateAfresh}
 use Rattle.placing.specs.Placing.{pixelsOf}
 use Rattle.plates.proofs.Same.{afresh-plate}
 use Rattle.history.specs.History.{Call, reset, read, write, tick, inspect, choose, place, World, fresh, leaves, after, counted}
-use Rattle.history.specs.Track.{Track, runsIn, starts, ends, imageIn, registersAt, inArea, lands, byteIn, next, told}
+use Rattle.history.specs.Track.{Track, runsIn, starts, ends, imageIn, registersAt, inArea, lands, byteIn, next, told, litBy}
 use Rattle.history.specs.Since.{Whole, cycleOf, Clear, noStart, writesByte, bytesIn}
 use Rattle.history.specs.Bits.{columnAt, rowAt, pixelAt, bitAt, sentIn, lastSent}
 use Rattle.history.proofs.Picks.{by-test, not-both}
@@ -52,8 +53,8 @@ byte-small (place file) p h = area-small (pixelsOf file) (p - 0x100)
 put-bytes : (t : Track) (w : World) (m : Moment t w) (k : Call) → Bytes (w .ram) → Bytes (put-next t w m k)
 put-bytes t w m k b =
     by-test (ramAllowed (t .ramSize))
-    (λ ok. pixels-bytes (w .store) (t .taken) _ _ (w .ram) (done-most (t .taken) _) (rw (ram-size t w m k) (ram-lent (t .ramSize) ok .least)) b)
-    (λ bad. rw (short-runs t k bad, add-zero (t .ran), pixels-none (w .store) (t .taken) (doneBy (t .taken) (t .ran)) (w .ram)) b)
+    (λ ok. pixels-bytes (byteAt (w .store)) (t .taken) _ _ (w .ram) (done-most (t .taken) _) (rw (ram-size t w m k) (ram-lent (t .ramSize) ok .least)) b)
+    (λ bad. rw (short-runs t k bad, add-zero (t .ran), pixels-none (byteAt (w .store)) (t .taken) (doneBy (t .taken) (t .ran)) (w .ram)) b)
 
 bytes-next : (t : Track) (w : World) (m : Moment t w) (k : Call) → writesByte k ≡ true → Bytes (w .ram) → Bytes (leaves w k .ram)
 bytes-next t w m k small b p =
@@ -118,7 +119,7 @@ module _ (ram store : List ℕ) (before : List Call) (start : Call) (between : L
 
     -- the last thing sent to each bit of a pixel is its bit of the shade afresh
     bit-done : (p b : ℕ) (here : inArea p ≡ true) → b < 8
-        → bitOf (getD (after (fresh ram store) calls .ram) p 0) b ≡ bitAt p (pictureShade (imageIn start) regs (columnAt p b) (rowAt p))
+        → bitOf (getD (after (fresh ram store) calls .ram) p 0) b ≡ bitAt p (pictureShade (litBy (imageIn start) regs) regs (columnAt p b) (rowAt p))
     unfolding lastSent
     bit-done p b here small =
         let was = bitOf (getD (w₀ .ram) p 0) b in
@@ -129,9 +130,9 @@ module _ (ram store : List ℕ) (before : List Call) (start : Call) (between : L
         ∙ sent-next (imageIn start) regs p b was here t n last o (ends-lands t last p (h .over))
         ∙ rw (all-run (pixelAt p b) (pixel-most p b here small))
 
-    pixel-done : (j : ℕ) → j < 14336 → shadeIn (after (fresh ram store) calls .ram) (j % 128) (j / 128) ≡ pictureShade (imageIn start) regs (j % 128) (j / 128)
+    pixel-done : (j : ℕ) → j < 14336 → shadeIn (after (fresh ram store) calls .ram) (j % 128) (j / 128) ≡ pictureShade (litBy (imageIn start) regs) regs (j % 128) (j / 128)
     pixel-done j most =
-        shade-of-bits (after (fresh ram store) calls .ram) (w₀ .ram) j (pictureShade (imageIn start) regs (j % 128) (j / 128)) most true
+        shade-of-bits (after (fresh ram store) calls .ram) (w₀ .ram) j (pictureShade (litBy (imageIn start) regs) regs (j % 128) (j / 128)) most true
         (λ d bit.
         rw (at-column j d most bit, at-row j d most bit) at (bit-done (spot j d most bit) (nth j d most bit) (at-inside j d most bit) (omega arith)))
 
@@ -142,10 +143,10 @@ pub picture : (ram store : List ℕ) (before : List Call) (start : Call) (betwee
     → Clear inArea (next (told ram store before) start) between
     → Bytes ram
     → bytesIn (before ++ (start ∷ (between ++ (last ∷ [])))) ≡ true
-    → areaOf (after (fresh ram store) (before ++ (start ∷ (between ++ (last ∷ [])))) .ram) ≡ pictureOf (imageIn start) (registersAt (told ram store before) start)
+    → areaOf (after (fresh ram store) (before ++ (start ∷ (between ++ (last ∷ [])))) .ram) ≡ pictureOf (litBy (imageIn start) (registersAt (told ram store before) start)) (registersAt (told ram store before) start)
 picture ram store before start between last h c first bytes =
     let calls = before ++ (start ∷ (between ++ (last ∷ []))) in
-    area-whole (imageIn start) (registersAt (told ram store before) start) (after (fresh ram store) calls .ram)
+    area-whole (litBy (imageIn start) (registersAt (told ram store before) start)) (registersAt (told ram store before) start) (after (fresh ram store) calls .ram)
     (rw (same-size ram store calls) (long-ram ram store before start (h .held .begins)))
     (bytes-after calls _ (fresh ram store) (at-reset ram store) bytes first)
     (λ x y hx hy.
@@ -159,10 +160,10 @@ pub plate : (ram store : List ℕ) (before : List Call) (start : Call) (between 
     → Clear inArea (next (told ram store before) start) between
     → Bytes ram
     → bytesIn (before ++ (start ∷ (between ++ (last ∷ [])))) ≡ true
-    → plateOf (after (fresh ram store) (before ++ (start ∷ (between ++ (last ∷ [])))) .ram) ≡ plateAfresh (imageIn start) (registersAt (told ram store before) start)
+    → plateOf (after (fresh ram store) (before ++ (start ∷ (between ++ (last ∷ [])))) .ram) ≡ plateAfresh (litBy (imageIn start) (registersAt (told ram store before) start)) (registersAt (told ram store before) start)
 plate ram store before start between last h c first bytes =
     let calls = before ++ (start ∷ (between ++ (last ∷ []))) in
-    afresh-plate (imageIn start) (registersAt (told ram store before) start) (after (fresh ram store) calls .ram)
+    afresh-plate (litBy (imageIn start) (registersAt (told ram store before) start)) (registersAt (told ram store before) start) (after (fresh ram store) calls .ram)
     (rw (same-size ram store calls) (long-ram ram store before start (h .held .begins)))
     (bytes-after calls _ (fresh ram store) (at-reset ram store) bytes first)
     (picture ram store before start between last h c first bytes)
@@ -177,7 +178,7 @@ first-rests t k cs h = (not-true (starts t k) (both-left (not (starts t k)) (noS
 -- a byte, while no capture is held and no write lands there
 stays-next : (t : Track) (w : World) (m : Moment t w) (k : Call) (p : ℕ) → runsIn t k ≡ 0 → lands t k p ≡ false → getD (leaves w k .ram) p 0 ≡ getD (w .ram) p 0
 stays-next t w m k p still out =
-    byte-next t w m k p ∙ rw (out, still, add-zero (t .ran), pixels-none (w .store) (t .taken) (doneBy (t .taken) (t .ran)) (w .ram))
+    byte-next t w m k p ∙ rw (out, still, add-zero (t .ran), pixels-none (byteAt (w .store)) (t .taken) (doneBy (t .taken) (t .ran)) (w .ram))
 
 pub stays-through : (cs : List Call) (t : Track) (w : World) → Moment t w → t .held ≡ false → noStart t cs ≡ true → Clear inArea t cs
     → (p : ℕ) → inArea p ≡ true → getD (after w cs .ram) p 0 ≡ getD (w .ram) p 0
@@ -209,7 +210,7 @@ pub picture-stays : (ram store : List ℕ) (before : List Call) (start : Call) (
     → Clear inArea (told ram store (before ++ (start ∷ (between ++ (last ∷ []))))) later
     → Bytes ram
     → bytesIn (before ++ (start ∷ (between ++ (last ∷ [])))) ≡ true
-    → areaOf (after (after (fresh ram store) (before ++ (start ∷ (between ++ (last ∷ []))))) later .ram) ≡ pictureOf (imageIn start) (registersAt (told ram store before) start)
+    → areaOf (after (after (fresh ram store) (before ++ (start ∷ (between ++ (last ∷ []))))) later .ram) ≡ pictureOf (litBy (imageIn start) (registersAt (told ram store before) start)) (registersAt (told ram store before) start)
 picture-stays ram store before start between last later h c s q first bytes =
     let calls = before ++ (start ∷ (between ++ (last ∷ []))) in
     let w : World = after (fresh ram store) calls in

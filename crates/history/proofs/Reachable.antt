@@ -14,6 +14,7 @@ use Rattle.timing.specs.Timing.{totalOf}
 use Rattle.controller.specs.State.{cantExist, resetState}
 use Rattle.controller.specs.Capture.{begun, moved, ended, Ticking, cycle, runs, running, ticks, from}
 use Rattle.controller.specs.Bus.{Left, onCartridge, byteWritten, controlWritten, registerWritten, captureWritten, withBank, withRegister, withEnabled, withSelect, isStart, registersOn}
+use Rattle.sensor.specs.Light.{byteAt}
 use Rattle.timing.specs.Lent.{romAllowed, ramAllowed, frameAllowed}
 use Rattle.controller.specs.Outcome.{Outcome}
 use Rattle.controller.specs.Table.{lowest}
@@ -78,9 +79,9 @@ written-sound c ram store image a v s =
 Wide : Ticking → Type 0
 Wide w = length (w .state .registers) ≡ 54
 
-cycle-wide : (frame : List ℕ) (w : Ticking) → Wide w → Wide (cycle frame w)
+cycle-wide : (lit : ℕ → ℕ → ℕ) (w : Ticking) → Wide w → Wide (cycle lit w)
 unfolding Wide cycle runs moved ended
-cycle-wide frame w h =
+cycle-wide lit w h =
     pick-ind Wide (running (w .state))
     (λ _.
     pick-ind (λ (c : Controller). length (c .registers) ≡ 54) (eqb (w .state .elapsed .0 + 1) (totalOf (w .state .taken)))
@@ -88,11 +89,11 @@ cycle-wide frame w h =
     (λ _. h))
     (λ _. h)
 
-ticks-sound : (frame ram : List ℕ) (n : ℕ) (c : Controller) → Sound c → Sound (ticks frame n (from c ram) .state)
+ticks-sound : (lit : ℕ → ℕ → ℕ) (ram : List ℕ) (n : ℕ) (c : Controller) → Sound c → Sound (ticks lit n (from c ram) .state)
 unfolding Wide
-ticks-sound frame ram n c s = record {
-  exists = ticks-keep frame (length ram) n (from c ram) (record { exists = s .exists; long = refl }) .exists;
-  wide = iter-keeps (cycle frame) Wide (cycle-wide frame) n (from c ram) (s .wide);
+ticks-sound lit ram n c s = record {
+  exists = ticks-keep lit (length ram) n (from c ram) (record { exists = s .exists; long = refl }) .exists;
+  wide = iter-keeps (cycle lit) Wide (cycle-wide lit) n (from c ram) (s .wide);
 }
 
 -- a choice
@@ -114,7 +115,7 @@ call-sound w (read rom a) s = judged-ind Of (lowest (readRows (w .state) rom (w 
 call-sound w (write image a v) s =
     judged-ind Of (lowest (writeRows (w .state) (w .ram) (w .store) image a)) (λ k. s) (written-sound (w .state) (w .ram) (w .store) image a v s)
 call-sound w (tick n) s =
-    judged-ind Of (lowest (tickRows (w .state) (w .ram) (w .store))) (λ k. s) (ticks-sound (w .store) (w .ram) n (w .state) s)
+    judged-ind Of (lowest (tickRows (w .state) (w .ram) (w .store))) (λ k. s) (ticks-sound (byteAt (w .store)) (w .ram) n (w .state) s)
 call-sound w inspect s = s
 call-sound w (choose light level plain exposure) s =
     judged-ind Of (lowest (chooseRows (w .state) light level)) (λ k. s) (chosen-sound (w .state) light level plain exposure s)
@@ -129,7 +130,7 @@ calls-sound (c ∷ cs) w s = calls-sound cs (leaves w c) (call-sound w c s)
 pub sound : (ram store : List ℕ) (cs : List Call) → Sound (after (fresh ram store) cs .state)
 sound ram store cs = calls-sound cs (fresh ram store) reset-sound
 
--- Reachable: from reset, over any RAM and frame store, any calls lead to a state that can exist
+-- Reachable: from reset, over any RAM and lit store, any calls lead to a state that can exist
 pub reachable : (ram store : List ℕ) (cs : List Call) → cantExist (after (fresh ram store) cs .state) ≡ false
 reachable ram store cs = sound ram store cs .exists
 

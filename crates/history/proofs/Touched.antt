@@ -12,6 +12,11 @@ use Rattle.laws.specs.Pick.{pick}
 use Rattle.laws.specs.Bits.{bitOf}
 use Rattle.laws.proofs.Order.{split}
 use Rattle.laws.proofs.Bools.{both-left, both-right}
+use Rattle.sensor.specs.Taken.{settingOf}
+use Rattle.sensor.specs.Light.{lightFrame, byteAt, litOf}
+use Rattle.sensor.specs.Shade.{shadeAt}
+use Rattle.sensor.proofs.Rows.{rows}
+use Rattle.sensor.proofs.Lit.{light-alike}
 use Rattle.timing.specs.Lent.{ramAllowed}
 use Rattle.timing.specs.Timing.{readingFrom, firstRow}
 use Rattle.timing.specs.Bulk.{pictureFrom, doneBy}
@@ -25,7 +30,7 @@ use Rattle.tiles.proofs.Run.{pixels-none}
 use Rattle.tiles.proofs.Pixels.{pixels-outside, pixels-passed, pixels-others}
 use Rattle.controller.proofs.TickSum.{ap-pick}
 use Rattle.history.specs.History.{Call, reset, read, write, tick, inspect, choose, place, World, fresh, leaves, after}
-use Rattle.history.specs.Track.{Track, atReset, tickAccepted, runsIn, inArea, lands, byteIn, next}
+use Rattle.history.specs.Track.{Track, atReset, tickAccepted, runsIn, inArea, lands, byteIn, next, litBy}
 use Rattle.history.specs.Since.{cycleOf}
 use Rattle.history.specs.Bits.{columnAt, rowAt, pixelAt, bitAt, sends, shadeSent, sentIn, lastSent}
 use Rattle.history.proofs.Picks.{by-test, not-both}
@@ -87,6 +92,9 @@ module _ (p b : ℕ) (here : inArea p ≡ true) (small : b < 8) where
       let h = column-small in
       omega arith
 
+  row-small : y < 112
+  row-small = let h = pixel-most in omega arith
+
   bit-of : 7 - x % 8 ≡ b
   bit-of = omega arith
 
@@ -112,12 +120,12 @@ module _ (p b : ℕ) (here : inArea p ≡ true) (small : b < 8) where
       rw (eq-eqb (p % 2) 0 (omega arith), e, bit-of) (omega arith))
 
   -- a range of pixels put: the bit is the pixel's, if it is of the range, and else what it was
-  bit-put : (frame regs ram : List ℕ) (from to : ℕ) → to ≤ 14336 → 8192 ≤ length ram
-      → bitOf (getD (pixels frame regs from to ram) p 0) b
-      ≡ pick (leb from j && ltb j to) (bitAt p (pictureShade frame regs x y)) (bitOf (getD ram p 0) b)
-  bit-put frame regs ram from to most long =
-      let r = pixels frame regs from to ram in
-      let others = pixels-others frame regs from to ram most long j in
+  bit-put : (lit : ℕ → ℕ → ℕ) (regs ram : List ℕ) (from to : ℕ) → to ≤ 14336 → 8192 ≤ length ram
+      → bitOf (getD (pixels lit regs from to ram) p 0) b
+      ≡ pick (leb from j && ltb j to) (bitAt p (pictureShade lit regs x y)) (bitOf (getD ram p 0) b)
+  bit-put lit regs ram from to most long =
+      let r = pixels lit regs from to ram in
+      let others = pixels-others lit regs from to ram most long j in
       let kept : shadeIn r (j % 128) (j / 128) ≡ shadeIn ram (j % 128) (j / 128) → bitOf (getD r p 0) b ≡ bitOf (getD ram p 0) b =
       λ e. bit-shown r ∙ ap (bitAt p) (rw (pixel-column, pixel-row) at e) ∙ sym (bit-shown ram) in
       split j from
@@ -126,7 +134,7 @@ module _ (p b : ℕ) (here : inArea p ≡ true) (small : b < 8) where
       split j to
       (λ l.
       bit-shown r
-      ∙ ap (bitAt p) (rw (pixel-column, pixel-row) at (pixels-passed frame regs from to ram most long j on l))
+      ∙ ap (bitAt p) (rw (pixel-column, pixel-row) at (pixels-passed lit regs from to ram most long j on l))
       ∙ rw (le-leb from j on, lt-ltb j to l))
       (λ late. kept (others (λ _ l. omega arith)) ∙ rw (le-ltb j to late, and-false)))
 
@@ -176,25 +184,34 @@ module _ (t : Track) (w : World) (m : Moment t w) (k : Call) where
   pub ram-size : length (w .ram) ≡ t .ramSize
   ram-size = ap (λ (u : Track). u .ramSize) (sym (m .told .same))
 
+  -- a shade worked out from the frame store is the one afresh from the image lent at the start
+  own-shade : w .store ≡ lightFrame (t .image) (settingOf (w .state .taken)) → (x y : ℕ) → x < 128 → y < 112
+      → pictureShade (byteAt (w .store)) (t .taken) x y ≡ pictureShade (litBy (t .image) (t .taken)) (t .taken) x y
+  own-shade own x y hx hy =
+      let set = settingOf (w .state .taken) in
+      ap (λ (s : List ℕ). shadeAt (byteAt s) (t .taken) x (y + 8)) own
+      ∙ rows (light-alike (t .image) set) (t .taken) x (y + 8) hx (omega arith) (omega arith) .shade
+      ∙ ap (λ (u : Track). shadeAt (litOf (t .image) (settingOf (u .taken))) (t .taken) x (y + 8)) (sym (m .told .same))
+
   module _ (p b : ℕ) where
     abbrev Put : Type 0
     Put = bitOf (getD (put-next t w m k) p 0) b ≡ pick (sends t k p b) (shadeSent t p b) (bitOf (getD (w .ram) p 0) b)
 
     still : runsIn t k ≡ 0 → Put
-    still z = rw (still-sends t k p b z, z, add-zero (t .ran), pixels-none (w .store) (t .taken) (doneBy (t .taken) (t .ran)) (w .ram))
+    still z = rw (still-sends t k p b z, z, add-zero (t .ran), pixels-none (byteAt (w .store)) (t .taken) (doneBy (t .taken) (t .ran)) (w .ram))
 
     apart : inArea p ≡ false → Put
-    apart out = rw (out-sends t k p b out, pixels-outside (w .store) (t .taken) _ _ (w .ram) (done-most (t .taken) _) p (away p out))
+    apart out = rw (out-sends t k p b out, pixels-outside (byteAt (w .store)) (t .taken) _ _ (w .ram) (done-most (t .taken) _) p (away p out))
 
     -- the capture held sends its own pixel
     runs : inArea p ≡ true → b < 8 → t .held ≡ true → ramAllowed (t .ramSize) ≡ true → Put
     unfolding sends shadeSent
     runs here small held ok =
-        let frame : w .store ≡ t .image = m .told .own (sym (ap (λ (u : Track). u .held) (m .told .same)) ∙ held) in
+        let shade = own-shade (m .told .own (sym (ap (λ (u : Track). u .held) (m .told .same)) ∙ held)) (columnAt p b) (rowAt p) (column-small p b here small) (row-small p b here small) in
         let long : 8192 ≤ length (w .ram) = rw ram-size (ram-lent (t .ramSize) ok .least) in
         let most = pixel-most p b here small in
-        bit-put p b here small (w .store) (t .taken) (w .ram) (doneBy (t .taken) (t .ran)) (doneBy (t .taken) (t .ran + runsIn t k)) (done-most (t .taken) _) long
-        ∙ rw (here, waiting (t .taken) (pixelAt p b) (t .ran) most, passed (t .taken) (pixelAt p b) (t .ran + runsIn t k) most, frame)
+        bit-put p b here small (byteAt (w .store)) (t .taken) (w .ram) (doneBy (t .taken) (t .ran)) (doneBy (t .taken) (t .ran + runsIn t k)) (done-most (t .taken) _) long
+        ∙ rw (here, waiting (t .taken) (pixelAt p b) (t .ran) most, passed (t .taken) (pixelAt p b) (t .ran + runsIn t k) most, shade)
 
     put : (inArea p ≡ true → b < 8) → Put
     put small =

@@ -19,7 +19,7 @@ use Rattle.controller.specs.Bus.{onCartridge}
 use Rattle.plates.specs.Grey.{plateOf}
 use Rattle.placing.proofs.RoundTrip.{out-in, plate-is}
 use Rattle.history.specs.History.{Call, reset, read, write, tick, inspect, place, fresh, after, counted}
-use Rattle.history.specs.Track.{atReset, writeAccepted, tickAccepted, placeAccepted, cyclesOf, runsIn, ends, toRegisters, starts, imageIn, registersAt, toRam, placeOf, inArea, lands, byteIn, enabling, selecting, storing, beginning, running, ending, controlled, registered, written, next, follow, told}
+use Rattle.history.specs.Track.{atReset, writeAccepted, tickAccepted, placeAccepted, cyclesOf, runsIn, ends, toRegisters, starts, imageIn, registersAt, toRam, placeOf, inArea, lands, byteIn, enabling, selecting, storing, beginning, running, ending, controlled, registered, written, next, follow, told, litBy}
 use Rattle.history.specs.Since.{isReset, goesOn, Held, Whole, ofPixel, cycleOf, landed, Clear, noStart, lastIn, writesByte, bytesIn}
 use Rattle.history.specs.Counts.{tally, startsTold, endsTold}
 use Rattle.history.proofs.Counts.{Counts, started-counts, ended-counts}
@@ -154,10 +154,10 @@ unfolding cyclesOf
 worked-cycles = cycles ram store before start between last (premises .whole) ∙ ap cyclesOf (premises .regs-at-start)
 
 -- Worked picture: the picture of the first image, with the exposure at the start
-pub worked-picture : areaOf (after (fresh ram store) calls .ram) ≡ pictureOf image regs
+pub worked-picture : areaOf (after (fresh ram store) calls .ram) ≡ pictureOf (litBy image regs) regs
 unfolding imageIn
 worked-picture =
-    picture ram store before start between last (premises .whole) (premises .untouched) ram-bytes (premises .bytes) ∙ ap (pictureOf image) (premises .regs-at-start)
+    picture ram store before start between last (premises .whole) (premises .untouched) ram-bytes (premises .bytes) ∙ ap (λ (r : List ℕ). pictureOf (litBy image r) r) (premises .regs-at-start)
 
 -- Worked outside: the byte that landed
 pub worked-outside : getD (after (fresh ram store) calls .ram) 0x1000 0 ≡ 0x5A
@@ -199,7 +199,7 @@ cycle-of j = omega arith
 
 module _ (j : ℕ) (most : j < 14336) where
   -- Worked half picture: at the stop pixels 0 to 255 are the fresh picture's
-  pub worked-passed : j < 256 → shadeIn (after (fresh ram store) (before ++ (start ∷ stopped)) .ram) (j % 128) (j / 128) ≡ pictureShade image regs (j % 128) (j / 128)
+  pub worked-passed : j < 256 → shadeIn (after (fresh ram store) (before ++ (start ∷ stopped)) .ram) (j % 128) (j / 128) ≡ pictureShade (litBy image regs) regs (j % 128) (j / 128)
   unfolding imageIn
   worked-passed l =
       half-picture ram store before start stopped j most (premises .held) (premises .unwritten j)

@@ -16,7 +16,7 @@ use Rattle.controller.specs.Bus.{onCartridge}
 use Rattle.placing.specs.Placing.{pixelsOf, placedByte, placedArea}
 use Rattle.placing.proofs.RoundTrip.{out-in, plate-is}
 use Rattle.history.specs.History.{Call, write, tick, place, fresh, after}
-use Rattle.history.specs.Track.{atReset, writeAccepted, tickAccepted, placeAccepted, cyclesOf, runsIn, ends, toRam, placeOf, inArea, lands, byteIn, enabling, selecting, storing, beginning, running, ending, controlled, registered, written, next}
+use Rattle.history.specs.Track.{atReset, writeAccepted, tickAccepted, placeAccepted, cyclesOf, runsIn, ends, toRam, placeOf, inArea, lands, byteIn, enabling, selecting, storing, beginning, running, ending, controlled, registered, written, next, litBy}
 use Rattle.history.specs.Since.{cycleOf}
 use Rattle.history.specs.Bits.{bitAt, sends, shadeSent, sentIn, lastSent}
 use Rattle.history.proofs.Touched.{touched}
@@ -48,12 +48,12 @@ last-sent cs p b = lastSent p b (atReset (length ram) (length store)) cs (bitOf 
 -- what was sent, each computed: bit 3 of 0100h and 0104h is of column 4, in rows 0 and 2; bit 4 of 01EAh is of column 115 in row 5, the
 -- last pixel passed, and bit 3 of column 116
 pub record Sent : Type 0 where
-  pub at-the-stop : last-sent stopped 0x100 3 ≡ pictureShade image regs 4 0 % 2
+  pub at-the-stop : last-sent stopped 0x100 3 ≡ pictureShade (litBy image regs) regs 4 0 % 2
   pub then-write : last-sent calls 0x100 3 ≡ 1
   pub write-first : last-sent edited 0x104 3 ≡ 1
-  pub then-low : last-sent calls 0x104 3 ≡ pictureShade image regs 4 2 % 2
-  pub then-high : last-sent calls 0x105 3 ≡ pictureShade image regs 4 2 / 2
-  pub passed : last-sent calls 0x1EA 4 ≡ pictureShade image regs 115 5 % 2
+  pub then-low : last-sent calls 0x104 3 ≡ pictureShade (litBy image regs) regs 4 2 % 2
+  pub then-high : last-sent calls 0x105 3 ≡ pictureShade (litBy image regs) regs 4 2 / 2
+  pub passed : last-sent calls 0x1EA 4 ≡ pictureShade (litBy image regs) regs 115 5 % 2
   pub not-passed : last-sent calls 0x1EA 3 ≡ bitOf (placedByte (pixelsOf file) 0xEA) 3
   pub not-yet : last-sent set-up 0x1EA 3 ≡ 1
   pub never : last-sent calls 0x1000 3 ≡ 1
@@ -90,10 +90,10 @@ bit cs p b = bitOf (getD (after (fresh ram store) cs .ram) p 0) b
 -- well; in one byte a bit from a pixel, and its neighbour from the placing, which until then held what it held at first; and one untouched to
 -- the end
 pub record Ways : Type 0 where
-  pub pixel-then-write : (bit stopped 0x100 3 ≡ pictureShade image regs 4 0 % 2) × (bit calls 0x100 3 ≡ 1)
-  pub write-then-pixel : (bit edited 0x104 3 ≡ 1) × (bit calls 0x104 3 ≡ pictureShade image regs 4 2 % 2)
-  pub high-bit : bit calls 0x105 3 ≡ pictureShade image regs 4 2 / 2
-  pub neighbours : (bit calls 0x1EA 4 ≡ pictureShade image regs 115 5 % 2) × (bit calls 0x1EA 3 ≡ 0)
+  pub pixel-then-write : (bit stopped 0x100 3 ≡ pictureShade (litBy image regs) regs 4 0 % 2) × (bit calls 0x100 3 ≡ 1)
+  pub write-then-pixel : (bit edited 0x104 3 ≡ 1) × (bit calls 0x104 3 ≡ pictureShade (litBy image regs) regs 4 2 % 2)
+  pub high-bit : bit calls 0x105 3 ≡ pictureShade (litBy image regs) regs 4 2 / 2
+  pub neighbours : (bit calls 0x1EA 4 ≡ pictureShade (litBy image regs) regs 115 5 % 2) × (bit calls 0x1EA 3 ≡ 0)
   pub untouched : (bit set-up 0x1EA 3 ≡ 1) × (bit calls 0x1000 3 ≡ 1)
 
 pub worked-bits : Ways

@@ -7,7 +7,7 @@ use Rattle.laws.specs.Pick.{pick}
 use Rattle.laws.specs.Bits.{bitOf}
 use Rattle.tiles.specs.Picture.{pictureShade}
 use Rattle.history.specs.History.{Call}
-use Rattle.history.specs.Track.{Track, runsIn, inArea, lands, byteIn, next}
+use Rattle.history.specs.Track.{Track, runsIn, inArea, lands, byteIn, next, litBy}
 use Rattle.history.specs.Since.{cycleOf}
 
 -- bit b of the byte at place p of the area is of the pixel in this column and in this row: the byte is of tile 16 × (y/8) + x/8 and of
@@ -33,7 +33,7 @@ sends t c p b =
 
 -- what it sends: of the shade afresh, from the image lent at that capture's start and the registers taken then
 unfoldable pub shadeSent : Track → ℕ → ℕ → ℕ
-shadeSent t p b = bitAt p (pictureShade (t .image) (t .taken) (columnAt p b) (rowAt p))
+shadeSent t p b = bitAt p (pictureShade (litBy (t .image) (t .taken)) (t .taken) (columnAt p b) (rowAt p))
 
 -- what a call sends to this bit: of a bus write or a placing that lands in its byte, that bit; or the capture's pixel; else it is what it was
 unfoldable pub sentIn : ℕ → ℕ → Track → Call → ℕ → ℕ

@@ -5,6 +5,8 @@ use mathlib.Core.List.{List, [], _∷_, _++_}
 use Prim.Native.Nat.{ℕ, _+_, _-_, _*_, _/_, _%_}
 use lib.Dec.{eqb, ltb}
 use Rattle.laws.specs.Pick.{pick}
+use Rattle.sensor.specs.Taken.{settingOf}
+use Rattle.sensor.specs.Light.{lightFrame}
 use Rattle.timing.specs.Timing.{readingFrom, firstRow}
 use Rattle.tiles.specs.Tiles as tiles
 use Rattle.history.specs.History.{Call, reset, read, write, tick, inspect, choose, place, World}
@@ -43,10 +45,10 @@ pub record Begun (ram store : List ℕ) (calls : List Call) : Type 0 where
   pub whole : calls ≡ before ++ (start ∷ between)
   pub held : Held (told ram store before) start between
 
--- a capture is held over this frame, with these registers taken, after so many cycles
-pub record Own (frame regs : List ℕ) (cycles : ℕ) (w : World) : Type 0 where
+-- a capture is held, the store is the light of this image, lent at the start, by these registers, and they are taken, after so many cycles
+pub record Own (image regs : List ℕ) (cycles : ℕ) (w : World) : Type 0 where
   pub held : w .state .held ≡ true
-  pub store : w .store ≡ frame
+  pub store : w .store ≡ lightFrame image (settingOf regs)
   pub taken : w .state .taken ≡ regs
   pub elapsed : w .state .elapsed .0 ≡ cycles
 

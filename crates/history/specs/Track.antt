@@ -7,6 +7,8 @@ use lib.Dec.{eqb, leb, ltb}
 use lib.ListN.{length, getD, set}
 use Rattle.laws.specs.Pick.{pick}
 use Rattle.laws.specs.Bits.{isSet}
+use Rattle.sensor.specs.Taken.{settingOf}
+use Rattle.sensor.specs.Light.{lightFrame, litOf}
 use Rattle.timing.specs.Lent.{ramAllowed, frameAllowed}
 use Rattle.controller.specs.State.{started, noRegisters}
 use Rattle.controller.specs.Bus.{onCartridge}
@@ -281,7 +283,12 @@ seen w image = record {
   ran = w .state .elapsed .0;
 }
 
--- what is told is true of a world: it is what the world shows, and while a capture is held the frame store is the image told
+-- the lit values of an image, by the registers taken
+abbrev pub litBy : List ℕ → List ℕ → ℕ → ℕ → ℕ
+litBy image regs = litOf image (settingOf regs)
+
+-- what is told is true of a world: it is what the world shows, and while a capture is held the frame store is the light of the image told, by
+-- the registers taken
 pub record Told (t : Track) (w : World) : Type 0 where
   pub same : t ≡ seen w (t .image)
-  pub own : w .state .held ≡ true → w .store ≡ t .image
+  pub own : w .state .held ≡ true → w .store ≡ lightFrame (t .image) (settingOf (w .state .taken))

@@ -1,4 +1,4 @@
--- The state record as bytes, layout 2: 121 of them, numbers little-endian. Assumes nothing.
+-- The state record as bytes, layout 3: 121 of them, numbers little-endian. Assumes nothing.
 use mathlib.Core.Bool.{Bool, _&&_}
 use mathlib.Core.List.{List, [], _∷_, _++_}
 use Prim.Native.Nat.{ℕ, _+_, _*_, _/_, _%_}
@@ -9,7 +9,7 @@ use Rattle.controller.specs.declared.Controller.{Controller}
 
 -- the number of the layout: bytes of another layout are no record
 abbrev pub layoutNumber : ℕ
-layoutNumber = 2
+layoutNumber = 3
 
 -- a flag: 0 or 1
 abbrev pub flag : Bool → ℕ

@@ -1,4 +1,4 @@
-// The state record as bytes, layout 2: 121 of them, numbers little-endian.
+// The state record as bytes, layout 3: 121 of them, numbers little-endian.
 use controller::Controller;
 use timing::Cycles;
 ghost use mathlib.Core.Path.{_≡_};
@@ -16,7 +16,7 @@ pub fn wide(x: u8) -> u32
 }
 
 // The number of the layout, at offset 0: bytes of another layout are no record.
-const LAYOUT: u8 = 2;
+const LAYOUT: u8 = 3;
 
 // The record's length.
 pub const STATE_LEN: usize = 121;
