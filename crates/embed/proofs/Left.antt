@@ -18,6 +18,7 @@ use Rattle.timing.specs.Timing.{nSet, totalOf}
 use Rattle.controller.specs.State.{cantExist, leftOver}
 use Rattle.tiles.specs.Tiles.{Bytes}
 use Rattle.controller.specs.Bus.{registersOn, withEnabled, withBank, withSelect, withRegister, controlWritten, isStart, captureWritten, registerWritten, Left, byteWritten}
+use Rattle.sensor.specs.Light.{byteAt}
 use Rattle.controller.specs.Capture.{Ticking, begun, moved, ended, running, runs, cycle, ticks, from}
 use Rattle.controller.specs.Calls.{writeRows, tickRows, writeMeans, tickMeans}
 use Rattle.controller.specs.Table.{lowest}
@@ -76,9 +77,9 @@ zeros zero i = omega arith
 zeros (suc n) zero = omega arith
 zeros (suc n) (suc i) = zeros n i
 
-cycle-sized : (frame : List ℕ) (w : Ticking) → Sized (w .state) → Sized (cycle frame w .state)
+cycle-sized : (lit : ℕ → ℕ → ℕ) (w : Ticking) → Sized (w .state) → Sized (cycle lit w .state)
 unfolding cycle runs moved ended
-cycle-sized frame w z =
+cycle-sized lit w z =
     pick-ind (λ (v : Ticking). Sized (v .state)) (running (w .state))
     (λ t.
     pick-ind Sized (eqb (w .state .elapsed .0 + 1) (totalOf (w .state .taken)))
@@ -101,14 +102,14 @@ elapsed-small c e b =
     let over : (none || rest) ≡ false = simp h at (exists-parts c e .nothing) in
     omega (arith, eqb-true (c .elapsed .0) 0 (not-false _ (neither-left none rest over))))
 
-ticks-whole : (frame ram : List ℕ) (n : ℕ) (c : Controller) → cantExist c ≡ false → Sized c → Whole (ticks frame n (from c ram) .state)
-ticks-whole frame ram n c e z =
-    let k : Kept (length ram) (ticks frame n (from c ram)) = ticks-keep frame (length ram) n (from c ram) (record { exists = e; long = refl }) in
-    let y : Sized (ticks frame n (from c ram) .state) = iter-keeps (cycle frame) (λ (w : Ticking). Sized (w .state)) (cycle-sized frame) n (from c ram) z in
+ticks-whole : (lit : ℕ → ℕ → ℕ) (ram : List ℕ) (n : ℕ) (c : Controller) → cantExist c ≡ false → Sized c → Whole (ticks lit n (from c ram) .state)
+ticks-whole lit ram n c e z =
+    let k : Kept (length ram) (ticks lit n (from c ram)) = ticks-keep lit (length ram) n (from c ram) (record { exists = e; long = refl }) in
+    let y : Sized (ticks lit n (from c ram) .state) = iter-keeps (cycle lit) (λ (w : Ticking). Sized (w .state)) (cycle-sized lit) n (from c ram) z in
     record {
       registers = y .registers;
       taken = y .taken;
-      elapsed = elapsed-small (ticks frame n (from c ram) .state) (k .exists) (y .bytes);
+      elapsed = elapsed-small (ticks lit n (from c ram) .state) (k .exists) (y .bytes);
       started = y .begun;
       ended = y .done;
     }
@@ -188,7 +189,7 @@ module _ (s ram store : List ℕ) (bytes : Bytes s) (h : isRecord s ≡ true) wh
   tick-whole n = by-number (lowest (tickRows (decoded s) ram store)) refl
     where
       by-number : (k : ℕ) → lowest (tickRows (decoded s) ram store) ≡ k → Whole (tickMeans (decoded s) ram store n .state)
-      by-number zero e = rw (tick-refuses (decoded s) ram store n .does e) (ticks-whole store ram n (decoded s) (tick-fits (decoded s) ram store e .exists) sized)
+      by-number zero e = rw (tick-refuses (decoded s) ram store n .does e) (ticks-whole (byteAt store) ram n (decoded s) (tick-fits (decoded s) ram store e .exists) sized)
       by-number (suc k) e = rw (tick-refuses (decoded s) ram store n .kept k e) whole
 
   pub write-left : (image : List ℕ) (a v : ℕ) → Reads (writeBytes s ram store image a v .state) (writeMeans (decoded s) ram store image a v .state)

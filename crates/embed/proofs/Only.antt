@@ -13,6 +13,7 @@ use Rattle.controller.specs.State.{started}
 use Rattle.tiles.specs.Tiles.{Bytes}
 use Rattle.controller.specs.Outcome.{Outcome, Inspection}
 use Rattle.controller.specs.Bus.{registersOn, romRead, byteRead}
+use Rattle.sensor.specs.Light.{byteAt}
 use Rattle.controller.specs.Capture.{Ticking, running, runs, cycle, ticks, from}
 use Rattle.controller.specs.Calls.{refusal, readMeans, writeMeans, tickMeans}
 use Rattle.matrix.specs.Matrix.{firstIn}
@@ -81,14 +82,14 @@ byte-small c rom ram a hr hm =
     (λ u. pick-ind (λ n. n < 256) (started (c .registers)) (λ z. omega arith) (λ z. hm _)))
 
 -- a tick counts no more cycles than it was given
-cycle-most : (frame : List ℕ) (w : Ticking) → cycle frame w .ran ≤ w .ran + 1
+cycle-most : (lit : ℕ → ℕ → ℕ) (w : Ticking) → cycle lit w .ran ≤ w .ran + 1
 unfolding cycle runs
-cycle-most frame w = pick-ind (λ (v : Ticking). v .ran ≤ w .ran + 1) (running (w .state)) (λ t. omega arith) (λ t. omega arith)
+cycle-most lit w = pick-ind (λ (v : Ticking). v .ran ≤ w .ran + 1) (running (w .state)) (λ t. omega arith) (λ t. omega arith)
 
-ticks-most : (frame : List ℕ) (n : ℕ) (w : Ticking) → ticks frame n w .ran ≤ w .ran + n
+ticks-most : (lit : ℕ → ℕ → ℕ) (n : ℕ) (w : Ticking) → ticks lit n w .ran ≤ w .ran + n
 unfolding iter
-ticks-most frame zero w = omega arith
-ticks-most frame (suc n) w = omega (arith, cycle-most frame (iter (cycle frame) n w), ticks-most frame n w)
+ticks-most lit zero w = omega arith
+ticks-most lit (suc n) w = omega (arith, cycle-most lit (iter (cycle lit) n w), ticks-most lit n w)
 
 -- an element's row and column are small
 named-small : (k : ℕ) → elementValue (named k) < 4294967296
@@ -114,7 +115,7 @@ pub tick-says : (s ram store : List ℕ) (n : ℕ) → n < 4294967296 → isReco
     → Says (tickBytes s ram store n .answer) (tickMeans (decoded s) ram store n .number) (tickMeans (decoded s) ram store n .value)
 tick-says s ram store n l h =
     rw (tick-done s ram store n h)
-    (packed-says _ _ (small (tick-refuses (decoded s) ram store n) (omega (arith, ticks-most store n (from (decoded s) ram)))))
+    (packed-says _ _ (small (tick-refuses (decoded s) ram store n) (omega (arith, ticks-most (byteAt store) n (from (decoded s) ram)))))
 
 pub choose-says : (s : List ℕ) (light level plain exposure : ℕ) → isRecord s ≡ true
     → Says (chooseBytes s light level plain exposure .answer) (chooseMeans (decoded s) light level (plainIn plain) (exposureIn exposure) .number) (chooseMeans (decoded s) light level (plainIn plain) (exposureIn exposure) .value)

@@ -58,7 +58,7 @@ pub extern "C" fn gulxinett_read(state: &[u8], rom: &[u8], ram: &[u8], address: 
     }
 }
 
-// Writes a byte to an address; a start copies the image to the frame store.
+// Writes a byte to an address; a start puts the light of the image into the frame store.
 #[no_mangle]
 pub extern "C" fn gulxinett_write(
     state: &mut [u8],
@@ -163,7 +163,7 @@ pub extern "C" fn gulxinett_inspect(state: &[u8]) -> u64
     }
 }
 
-// Draws the whole picture of a frame under 54 registers taken.
+// Draws the whole picture of an image under 54 registers taken.
 #[no_mangle]
 pub extern "C" fn gulxinett_picture(
     frame: &[u8],
