@@ -89,7 +89,7 @@ fn read_register(state: &State, offset: usize) -> u8 {
     }
 }
 
-/// Writes a byte to an address; a start copies the image to the frame store.
+/// Writes a byte to an address; a start lights the image into the frame store.
 pub fn write(
     state: &mut State,
     ram: &mut [u8],
@@ -106,7 +106,7 @@ pub fn write(
         Area::Rom(address) => write_control(state, address, value),
         Area::Window(offset) if state.shows_registers() => {
             if write_register(state, offset % REGISTER_MIRROR, value) {
-                store.copy_from_slice(image);
+                picture::light(store, image, &state.taken);
             }
         }
         Area::Window(offset) => {

@@ -1,4 +1,6 @@
 //! From light to shade: the sensor's filters, the dithering matrix and the tiles.
+//!
+//! A store has for each pixel the value 0 to 255 that step 3 has before 128 is subtracted.
 
 use crate::bus::check_frame;
 use crate::{Refusal, FRAME_BYTES, REGISTERS, SENSOR_WIDTH};
@@ -30,25 +32,43 @@ pub(crate) const OCTET: usize = 8;
 /// Edge ratios in quarters: 50, 75, 100, 125, 200, 300, 400 and 500 per cent.
 const RATIOS: [i16; 8] = [2, 3, 4, 5, 8, 12, 16, 20];
 
-/// The whole picture of a frame under the registers taken.
-pub fn picture(frame: &[u8], registers: &[u8; REGISTERS]) -> Result<Plate, Refusal> {
-    check_frame(frame)?;
+/// The whole picture of an image under the registers taken.
+pub fn picture(image: &[u8], registers: &[u8; REGISTERS]) -> Result<Plate, Refusal> {
+    check_frame(image)?;
+    let mut store = [0; FRAME_BYTES];
+    light(&mut store, image, registers);
     let mut plate = [0; PLATE_BYTES];
-    draw(&mut plate, frame, registers, 0..PIXELS);
+    draw(&mut plate, &store, registers, 0..PIXELS);
     Ok(plate)
+}
+
+/// Steps 1 to 3 before 128 is subtracted, for every pixel of an image.
+pub(crate) fn light(store: &mut [u8], image: &[u8], registers: &[u8; REGISTERS]) {
+    let exposure = u32::from(u16::from_be_bytes([registers[2], registers[3]]));
+    let flip = if registers[4] & 8 != 0 { 255 } else { 0 };
+    for (lit, &v) in store.iter_mut().zip(image) {
+        // The product is taken in the upper half of 32 bits to divide by 256.
+        let exposed = (u32::from(adapt(v) << 8) * exposure) >> 16;
+        *lit = (exposed as u16).min(255) as u8 ^ flip;
+    }
+}
+
+/// Step 1: the sensor's narrower range.
+fn adapt(v: u8) -> u16 {
+    (128 + (i16::from(v) - 128) * 5 / 8) as u16
 }
 
 /// Draws a run of picture pixels, counted row by row, and touches no other bit.
 pub(crate) fn draw(
     plate: &mut [u8],
-    frame: &[u8],
+    store: &[u8],
     registers: &[u8; REGISTERS],
     pixels: Range<usize>,
 ) {
     if pixels.is_empty() {
         return;
     }
-    let sensor = Sensor::new(frame, registers);
+    let sensor = Sensor::new(store, registers);
     let mut strip = |rows, columns: Range<usize>| {
         sensor.strip(rows, columns.clone(), |y, values| {
             sensor.dither(plate, y, values, &columns)
@@ -72,8 +92,8 @@ pub(crate) fn draw(
 }
 
 /// The values 0 to 255 of all picture pixels, before the matrix makes shades of them.
-pub(crate) fn values(pixels: &mut [u8], frame: &[u8], registers: &[u8; REGISTERS]) {
-    let sensor = Sensor::new(frame, registers);
+pub(crate) fn values(pixels: &mut [u8], store: &[u8], registers: &[u8; REGISTERS]) {
+    let sensor = Sensor::new(store, registers);
     sensor.strip(0..PICTURE_HEIGHT, 0..PICTURE_WIDTH, |y, values| {
         let row = &mut pixels[y * PICTURE_WIDTH..][..PICTURE_WIDTH];
         for (pixel, value) in row.iter_mut().zip(values) {
@@ -112,12 +132,9 @@ type Lit = [i16; SENSOR_WIDTH + 2];
 /// A row of values, column x at x.
 type Row = [i16; SENSOR_WIDTH];
 
-/// A frame and what the registers taken ask to be made of it.
+/// A store and what the registers taken ask to be made of it.
 struct Sensor<'a> {
-    frame: &'a [u8; FRAME_BYTES],
-    exposure: u16,
-    /// 255 to invert, else 0.
-    flip: i16,
+    store: &'a [u8; FRAME_BYTES],
     edge: Edge,
     /// The pixel itself is added to its edge value.
     enhances: bool,
@@ -127,7 +144,7 @@ struct Sensor<'a> {
 }
 
 impl<'a> Sensor<'a> {
-    fn new(frame: &'a [u8], registers: &'a [u8; REGISTERS]) -> Self {
+    fn new(store: &'a [u8], registers: &'a [u8; REGISTERS]) -> Self {
         let ratio = registers[4] >> 4 & 7;
         let mode = registers[1] >> 5 << 1 | registers[4] >> 7;
         let (edge, enhances) = match mode {
@@ -146,11 +163,9 @@ impl<'a> Sensor<'a> {
             _ => OneD::Plain,
         };
         Sensor {
-            frame: frame
+            store: store
                 .try_into()
-                .expect("the frame's size is checked before"),
-            exposure: u16::from_be_bytes([registers[2], registers[3]]),
-            flip: if registers[4] & 8 != 0 { 255 } else { 0 },
+                .expect("the store's size is checked before"),
             edge,
             enhances,
             ratio: RATIOS[usize::from(ratio)],
@@ -168,13 +183,13 @@ impl<'a> Sensor<'a> {
         }
     }
 
-    /// Hands on the same columns of some picture rows as signed values, each sensor row lit once.
+    /// Hands on the same columns of some picture rows as signed values, each sensor row loaded once.
     fn strip(&self, rows: Range<usize>, columns: Range<usize>, mut each: impl FnMut(usize, &Row)) {
         let (above, below) = self.reach();
         let first = rows.start + FIRST_ROW;
         let mut lit = [[0; SENSOR_WIDTH + 2]; 3];
         for row in first - above..first + below {
-            self.light(&mut lit[row % 3], row, &columns);
+            self.load(&mut lit[row % 3], row, &columns);
         }
         let mut here = [0; SENSOR_WIDTH];
         let mut next = [0; SENSOR_WIDTH];
@@ -183,7 +198,7 @@ impl<'a> Sensor<'a> {
         }
         for y in rows {
             let row = y + FIRST_ROW;
-            self.light(&mut lit[(row + below) % 3], row + below, &columns);
+            self.load(&mut lit[(row + below) % 3], row + below, &columns);
             if self.one_d == OneD::Difference {
                 here = next;
                 self.filter(&mut next, &lit, row + 1, &columns);
@@ -195,22 +210,16 @@ impl<'a> Sensor<'a> {
         }
     }
 
-    /// Steps 1 to 3: the signed values of a sensor row, one column more on either side.
-    fn light(&self, lit: &mut Lit, row: usize, columns: &Range<usize>) {
-        let row = &self.frame[row * SENSOR_WIDTH..][..SENSOR_WIDTH];
+    /// The signed values of a sensor row, one column more on either side.
+    fn load(&self, lit: &mut Lit, row: usize, columns: &Range<usize>) {
+        let row = &self.store[row * SENSOR_WIDTH..][..SENSOR_WIDTH];
         let wide = columns.start.saturating_sub(1)..(columns.end + 1).min(SENSOR_WIDTH);
         let places = &mut lit[wide.start + 1..wide.end + 1];
         for (place, &v) in places.iter_mut().zip(&row[wide]) {
-            *place = self.expose(adapt(v));
+            *place = i16::from(v) - 128;
         }
         lit[0] = lit[1];
         lit[SENSOR_WIDTH + 1] = lit[SENSOR_WIDTH];
-    }
-
-    /// Steps 2 and 3; the product is taken in the upper half of 32 bits to divide by 256.
-    fn expose(&self, v: u16) -> i16 {
-        let exposed = (u32::from(v << 8) * u32::from(self.exposure)) >> 16;
-        ((exposed as u16).min(255) as i16 ^ self.flip) - 128
     }
 
     /// Step 4 for a sensor row, in quarters that are cut toward zero at the end.
@@ -269,11 +278,6 @@ impl<'a> Sensor<'a> {
             }
         }
     }
-}
-
-/// Step 1: the sensor's narrower range.
-fn adapt(v: u8) -> u16 {
-    (128 + (i16::from(v) - 128) * 5 / 8) as u16
 }
 
 /// Holds a value to what eight signed bits can say.

@@ -1,7 +1,7 @@
 //! Refusals, the bus rules and matrix inspection.
 
 use super::random::Random;
-use super::slow::started;
+use super::slow::{lit_store, started};
 use crate::{inspect, picture, read, tick, write, Element, Refusal, State};
 
 const ROM: [u8; 16_384] = [0xFF; 16_384];
@@ -260,19 +260,48 @@ fn a_start_takes_the_new_trigger() {
         ..State::RESET
     };
     state.registers = [0x55; 54];
-    state.registers[0] = 2;
+    (state.registers[0], state.registers[2], state.registers[3]) = (2, 1, 0x50);
     let (mut ram, mut store) = ([0; 8_192], FRAME);
     write(&mut state, &mut ram, &mut store, &[8; 16_384], 0xA080, 0xFD).unwrap();
     let mut taken = [0x55; 54];
-    taken[0] = 5;
+    (taken[0], taken[2], taken[3]) = (5, 1, 0x50);
     assert_eq!(
         (state.registers, state.taken, state.held),
         (taken, taken, true)
     );
-    assert_eq!(store, [8; 16_384]);
+    // Light 8 becomes 53, and at exposure 0150h 69.
+    assert_eq!(store, [69; 16_384]);
     write(&mut state, &mut ram, &mut store, &[9; 16_384], 0xA000, 0x03).unwrap();
     assert_eq!((state.registers[0], state.taken[0]), (3, 5));
-    assert_eq!(store, [8; 16_384]);
+    assert_eq!(store, [69; 16_384]);
+}
+
+#[test]
+fn a_start_lights_every_pixel_with_the_registers_just_taken() {
+    let mut random = Random::new(28);
+    let every_light: Vec<u8> = (0..16_384).map(|place| place as u8).collect();
+    for round in 0..400 {
+        let mut taken: [u8; 54] = random.bytes(54).try_into().unwrap();
+        taken[0] = taken[0] & 6 | 1;
+        taken[2] >>= round % 8;
+        let mut state = State {
+            registers: taken,
+            ram_select: 16,
+            ..State::RESET
+        };
+        state.registers[0] = 0;
+        let (mut ram, mut store) = ([0; 8_192], FRAME);
+        write(
+            &mut state,
+            &mut ram,
+            &mut store,
+            &every_light,
+            0xA000,
+            taken[0],
+        )
+        .unwrap();
+        assert!(store[..] == lit_store(&every_light, &taken));
+    }
 }
 
 #[test]

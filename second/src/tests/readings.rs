@@ -1,8 +1,8 @@
 //! The readings before the dots, beside a slow reading of the paper.
 
 use super::random::Random;
-use super::slow::{registers, shade, started, value};
-use crate::{export_readings, shades, tick, Refusal, State, Timing};
+use super::slow::{registers, shade, started, value, Source};
+use crate::{export_readings, shades, tick, write, Refusal, State, Timing};
 
 const FILE: usize = 14_351;
 /// What the buffers hold before.
@@ -20,15 +20,50 @@ pub fn readings(state: &State, store: &[u8]) -> Vec<u8> {
     buffer.split_off(15)
 }
 
+/// The readings that a source and the registers taken give, pixel by pixel.
+fn slow_readings(source: Source, taken: &[u8; 54]) -> Vec<u8> {
+    (0..14_336)
+        .map(|i| {
+            value(source, taken, i % 128, 8 + i / 128)
+                .try_into()
+                .unwrap()
+        })
+        .collect()
+}
+
+/// A capture begun by a start with these registers, and the store it leaves.
+fn begun(taken: &[u8; 54], image: &[u8]) -> (State, Vec<u8>) {
+    let mut state = State {
+        registers: *taken,
+        ram_select: 16,
+        ..State::RESET
+    };
+    state.registers[0] = 0;
+    let mut store = vec![BEFORE; 16_384];
+    write(
+        &mut state,
+        &mut [0; 8_192],
+        &mut store,
+        image,
+        0xA000,
+        taken[0],
+    )
+    .unwrap();
+    assert_eq!(state.taken, *taken);
+    (state, store)
+}
+
 #[test]
 fn every_mode() {
     let mut random = Random::new(24);
     for case in 0..64 {
         let taken = registers(&mut random, case % 16);
-        let store = random.bytes(16_384);
-        let values = readings(&started(&taken), &store);
-        let slow = (0..14_336).map(|i| value(&store, &taken, i % 128, 8 + i / 128));
-        assert!(values.iter().map(|&value| i32::from(value)).eq(slow));
+        let bytes = random.bytes(16_384);
+        let values = readings(&started(&taken), &bytes);
+        assert!(values == slow_readings(Source::Store(&bytes), &taken));
+        let (state, store) = begun(&taken, &bytes);
+        let values = readings(&state, &store);
+        assert!(values == slow_readings(Source::Image(&bytes), &taken));
     }
 }
 
@@ -53,9 +88,13 @@ fn level_light() {
     // At exposure 0100h a light of 255 becomes 207, and inverted 48.
     let mut taken = [0; 54];
     (taken[0], taken[2]) = (3, 1);
-    assert!(readings(&started(&taken), &[255; 16_384]) == [207; 14_336]);
+    let (state, store) = begun(&taken, &[255; 16_384]);
+    assert!(store == [207; 16_384] && readings(&state, &store) == [207; 14_336]);
     taken[4] = 8;
-    assert!(readings(&started(&taken), &[255; 16_384]) == [48; 14_336]);
+    let (state, store) = begun(&taken, &[255; 16_384]);
+    assert!(store == [48; 16_384] && readings(&state, &store) == [48; 14_336]);
+    // A store lent is read as it is.
+    assert!(readings(&state, &[99; 16_384]) == [99; 14_336]);
 }
 
 #[test]

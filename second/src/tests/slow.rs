@@ -4,19 +4,44 @@ use super::random::Random;
 use super::readings::readings;
 use crate::{picture, tick, write, State, Timing, PLATE_OFFSET};
 
-/// Steps 1 to 3 for a sensor pixel; a column beyond the sensor repeats the edge, and no picture
-/// pixel asks for a row outside 7 to 121.
-pub fn light(frame: &[u8], taken: &[u8; 54], x: i32, row: i32) -> i32 {
-    assert!((7..=121).contains(&row), "row {row}");
-    let x = x.clamp(0, 127);
-    let mut v = frame[(row * 128 + x) as usize] as i32;
+/// What the pixels of a capture are read from.
+#[derive(Clone, Copy)]
+pub enum Source<'a> {
+    /// The image lent at the start.
+    Image(&'a [u8]),
+    /// A frame store, whatever it holds.
+    Store(&'a [u8]),
+}
+
+impl Source<'_> {
+    /// The signed value of a sensor pixel; a column beyond the sensor repeats the edge, and no
+    /// picture pixel asks for a row outside 7 to 121.
+    fn signed(self, taken: &[u8; 54], x: i32, row: i32) -> i32 {
+        assert!((7..=121).contains(&row), "row {row}");
+        let place = (row * 128 + x.clamp(0, 127)) as usize;
+        let value = match self {
+            Source::Image(image) => lit(image[place], taken),
+            Source::Store(store) => store[place],
+        };
+        i32::from(value) - 128
+    }
+}
+
+/// Steps 1 to 3 for one pixel, before 128 is subtracted.
+pub fn lit(v: u8, taken: &[u8; 54]) -> u8 {
+    let mut v = i32::from(v);
     v = 128 + (v - 128) * 5 / 8;
     let exposure = taken[2] as i32 * 256 + taken[3] as i32;
     v = (v * exposure / 256).min(255);
     if taken[4] & 8 != 0 {
         v = 255 - v;
     }
-    v - 128
+    v.try_into().unwrap()
+}
+
+/// What a start leaves in the store.
+pub fn lit_store(image: &[u8], taken: &[u8; 54]) -> Vec<u8> {
+    image.iter().map(|&v| lit(v, taken)).collect()
 }
 
 pub fn mode(taken: &[u8; 54]) -> u8 {
@@ -55,8 +80,8 @@ pub fn step_5(mode: u8, start: u8, p: i32, s: i32) -> i32 {
 }
 
 /// Step 4 for a sensor pixel.
-fn filtered(frame: &[u8], taken: &[u8; 54], x: i32, row: i32) -> i32 {
-    let at = |dx, dy| light(frame, taken, x + dx, row + dy);
+fn filtered(source: Source, taken: &[u8; 54], x: i32, row: i32) -> i32 {
+    let at = |dx, dy| source.signed(taken, x + dx, row + dy);
     let ratio = (taken[4] >> 4) & 7;
     step_4(
         mode(taken),
@@ -96,23 +121,23 @@ pub fn put(ram: &mut [u8], x: usize, y: usize, shade: u8) {
 }
 
 /// The value 0 to 255 of a sensor pixel of the picture, before the matrix.
-pub fn value(frame: &[u8], taken: &[u8; 54], x: usize, row: usize) -> i32 {
-    let p = filtered(frame, taken, x as i32, row as i32);
-    let s = filtered(frame, taken, x as i32, row as i32 + 1);
+pub fn value(source: Source, taken: &[u8; 54], x: usize, row: usize) -> i32 {
+    let p = filtered(source, taken, x as i32, row as i32);
+    let s = filtered(source, taken, x as i32, row as i32 + 1);
     step_5(mode(taken), taken[0], p, s) + 128
 }
 
-fn pixel(ram: &mut [u8], frame: &[u8], taken: &[u8; 54], x: usize, row: usize) {
+fn pixel(ram: &mut [u8], source: Source, taken: &[u8; 54], x: usize, row: usize) {
     if !(8..120).contains(&row) {
         return;
     }
     let y = row - 8;
-    let value = value(frame, taken, x, row);
+    let value = value(source, taken, x, row);
     put(ram, x, y, shade(taken, x, y, value));
 }
 
 /// One cycle at a time.
-pub fn slow_tick(state: &mut State, ram: &mut [u8], store: &[u8], cycles: u32) -> u32 {
+pub fn slow_tick(state: &mut State, ram: &mut [u8], source: Source, cycles: u32) -> u32 {
     let mut running = 0;
     for _ in 0..cycles {
         if !(state.held && state.registers[0] & 1 == 1) {
@@ -130,7 +155,7 @@ pub fn slow_tick(state: &mut State, ram: &mut [u8], store: &[u8], cycles: u32) -
             let k = after - start - 1;
             pixel(
                 ram,
-                store,
+                source,
                 &state.taken,
                 (k % 128) as usize,
                 (k / 128 + first) as usize,
@@ -182,6 +207,13 @@ fn fast_ticks_are_slow_ticks() {
             1 => (0..16_384).map(|i| (i % 128 + i / 128) as u8).collect(),
             _ => (0..16_384).map(|_| 255 * (random.byte() & 1)).collect(),
         };
+        // A capture begun by a start is held to its image, any other store is read as it is.
+        let begun = case % 5 > 0;
+        let (store, source) = if begun {
+            (lit_store(&frame, &taken), Source::Image(&frame))
+        } else {
+            (frame.clone(), Source::Store(&frame))
+        };
         let mut fast = started(&taken);
         let mut slow = fast;
         let mut fast_ram = random.bytes(8_192);
@@ -190,7 +222,7 @@ fn fast_ticks_are_slow_ticks() {
         let reading = 2 * timing.reading_starts();
         // Skips what is before the reading, where a cycle does nothing but count.
         let jump = reading - random.below(8) as u32 - 1;
-        assert_eq!(tick(&mut fast, &mut fast_ram, &frame, jump), Ok(jump));
+        assert_eq!(tick(&mut fast, &mut fast_ram, &store, jump), Ok(jump));
         slow.elapsed = jump;
         assert_eq!((fast, &fast_ram), (slow, &slow_ram));
         while fast.held {
@@ -199,13 +231,15 @@ fn fast_ticks_are_slow_ticks() {
                 1..=4 => random.below(5_000) as u32,
                 _ => random.below(700) as u32,
             };
-            let running = tick(&mut fast, &mut fast_ram, &frame, cycles).unwrap();
-            assert_eq!(running, slow_tick(&mut slow, &mut slow_ram, &frame, cycles));
+            let running = tick(&mut fast, &mut fast_ram, &store, cycles).unwrap();
+            assert_eq!(running, slow_tick(&mut slow, &mut slow_ram, source, cycles));
             assert_eq!(fast, slow, "case {case}");
             assert!(fast_ram == slow_ram, "case {case}, at {}", slow.elapsed);
         }
-        let plate = picture(&frame, &taken).unwrap();
-        assert_eq!(plate[..], fast_ram[PLATE_OFFSET..][..plate.len()]);
+        if begun {
+            let plate = picture(&frame, &taken).unwrap();
+            assert_eq!(plate[..], fast_ram[PLATE_OFFSET..][..plate.len()]);
+        }
     }
 }
 
@@ -216,14 +250,15 @@ fn one_cycle_at_a_time() {
         let mut taken = registers(&mut random, mode);
         (taken[2], taken[3]) = (0, 0x60);
         let frame = random.bytes(16_384);
+        let store = lit_store(&frame, &taken);
         let mut fast = started(&taken);
         let mut slow = fast;
         let mut fast_ram = vec![0x5A; 8_192];
         let mut slow_ram = fast_ram.clone();
         while slow.held {
             let cycles = 1 + random.below(4) as u32 / 3;
-            slow_tick(&mut slow, &mut slow_ram, &frame, cycles);
-            tick(&mut fast, &mut fast_ram, &frame, cycles).unwrap();
+            slow_tick(&mut slow, &mut slow_ram, Source::Image(&frame), cycles);
+            tick(&mut fast, &mut fast_ram, &store, cycles).unwrap();
             assert_eq!(fast, slow);
         }
         assert!(fast_ram == slow_ram);
@@ -243,7 +278,7 @@ fn every_setting_of_the_filters() {
         let mut ram = vec![0; 8_192];
         let picked = random.below(112) as usize;
         for y in [0, picked, 111] {
-            (0..128).for_each(|x| pixel(&mut ram, &frame, &taken, x, y + 8));
+            (0..128).for_each(|x| pixel(&mut ram, Source::Image(&frame), &taken, x, y + 8));
         }
         for y in [0, picked, 111] {
             for x in 0..16 {
@@ -324,7 +359,7 @@ fn a_stopped_capture_keeps_frame_and_registers() {
             }
         }
         assert_eq!(run, total);
-        assert!(store == image);
+        assert!(store == lit_store(&image, &taken));
         assert_eq!(ram[0x100..0xF00], picture(&image, &taken).unwrap());
     }
 }
