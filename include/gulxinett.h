@@ -2,7 +2,7 @@
  *
  * The state record is 121 bytes, numbers little-endian:
  *
- *   offset  0       the number of this layout, 2
+ *   offset  0       the number of this layout, 3
  *   offset  1       RAM write enable, 0 or 1
  *   offset  2       ROM bank, 0 to 63
  *   offset  3       RAM select, 0 to 31
@@ -15,7 +15,12 @@
  *
  * Bytes of another length or layout, or with offset 1 or 4 above 1, are no record and are refused
  * as 1, exactly as a record that can't exist. So what another version saved is never misread:
- * layout 1 had 116 bytes and began with a flag, which was 0 or 1.
+ * layout 1 had 116 bytes and began with a flag, which was 0 or 1; layout 2 had the fields above, and
+ * with it went a frame store of the raw image, which would be read wrongly now.
+ *
+ * The image is 128 rows of 128 bytes of light. The frame store has as many bytes: for each pixel the
+ * value 0 to 255 that a start made of its light under the registers it took (exposed, and inverted where
+ * register 4 says so), before the filters. Whatever store is lent is read as such values.
  *
  * Every function answers refusal number * 2^32 + value; number 0 means not refused, and a
  * refusal has value 0. A refused call changes no byte it was lent. The refusals, lowest first:
@@ -68,7 +73,7 @@ extern "C" {
 #define GULXINETT_STACK 8192
 
 /* The layout of the state record, and where in it the two counts of captures stand. */
-#define GULXINETT_LAYOUT 2
+#define GULXINETT_LAYOUT 3
 #define GULXINETT_STARTED_OFFSET 9
 #define GULXINETT_ENDED_OFFSET 11
 
@@ -88,7 +93,7 @@ uint64_t gulxinett_read(const uint8_t *state, size_t state_len,
                         const uint8_t *ram, size_t ram_len,
                         uint16_t address);
 
-/* Writes a byte to an address; a start copies the image to the frame store. Value 0. */
+/* Writes a byte to an address; a start lights the image into the frame store. Value 0. */
 uint64_t gulxinett_write(uint8_t *state, size_t state_len,
                          uint8_t *ram, size_t ram_len,
                          uint8_t *store, size_t store_len,
@@ -115,8 +120,8 @@ uint64_t gulxinett_choose(uint8_t *state, size_t state_len,
  * values don't rise or stay level. Value: 0 if there is none, else 0x100 + 16 * row + column. */
 uint64_t gulxinett_inspect(const uint8_t *state, size_t state_len);
 
-/* Draws the whole picture of a frame under 54 registers taken, as RAM bank 0 gets it from
- * offset 0x100 on. registers is exactly 54 bytes, picture exactly 3,584. Value 0. */
+/* Draws the whole picture of a frame, an image as a start is lent it, under 54 registers taken, as RAM
+ * bank 0 gets it from offset 0x100 on. registers is exactly 54 bytes, picture exactly 3,584. Value 0. */
 uint64_t gulxinett_picture(const uint8_t *frame, size_t frame_len,
                            const uint8_t *registers,
                            uint8_t *picture);

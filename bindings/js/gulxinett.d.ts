@@ -4,7 +4,7 @@ export type Bytes = Uint8Array | Uint8ClampedArray | ArrayBuffer;
 /** Bytes of the state record. */
 export const STATE_BYTES: 121;
 /** The layout of these bytes, which their first one says; bytes of another layout are refused as 1. */
-export const LAYOUT: 2;
+export const LAYOUT: 3;
 /** The layout that a state record's bytes were saved in, whichever version saved them; null if they are no record's. */
 export function layoutOf(state: Bytes): number | null;
 /** Camera registers. */
@@ -47,7 +47,7 @@ export interface Save {
   state: Uint8Array;
   /** The RAM, as long as it was given. */
   ram: Uint8Array;
-  /** The frame store, 16,384 bytes. */
+  /** The frame store, 16,384 bytes: the image of the last start, lit under the registers it took. */
   store: Uint8Array;
 }
 
@@ -73,7 +73,7 @@ export interface Given {
   ram?: Bytes;
   /** 121 bytes; without it the record after reset. */
   state?: Bytes;
-  /** 16,384 bytes; without it all 00. */
+  /** 16,384 bytes, each read as the lit value of a pixel; without it all 00. */
   store?: Bytes;
 }
 
@@ -104,7 +104,7 @@ export interface Cartridge {
   reset(): void;
   /** The byte at an address. */
   read(address: number): number;
-  /** Writes a byte to an address; a start copies the image lent to the frame store. */
+  /** Writes a byte to an address; a start lights the image lent into the frame store. */
   write(address: number, value: number): void;
   /** Lets cycles pass; how many of them fell while a capture was running. */
   tick(cycles: number): number;

@@ -7,7 +7,7 @@ import { LINE_BYTES, ROW_BYTES, Recorder } from "./recorder.js";
 /** Bytes of the state record. */
 export const STATE_BYTES = 121;
 /** The layout of these bytes, which their first one says; bytes of another layout are refused as 1. */
-export const LAYOUT = 2;
+export const LAYOUT = 3;
 /** Camera registers. */
 export const REGISTERS = 54;
 /** Bytes in one ROM bank. */
@@ -258,7 +258,7 @@ function bound(exports) {
       return valueOf(exports.gulxinett_read(...this.#reading, address));
     }
 
-    /** Writes a byte to an address; a start copies the image lent to the frame store. */
+    /** Writes a byte to an address; a start lights the image lent into the frame store. */
     write(address, value) {
       const { image } = this.#open();
       upTo(0xffff, "the address", address);

@@ -17,7 +17,7 @@ from typing import NamedTuple, Optional
 #: Bytes of the state record.
 STATE_BYTES = 121
 #: The layout of these bytes, which their first one says; bytes of another layout are refused as 1.
-LAYOUT = 2
+LAYOUT = 3
 #: Camera registers.
 REGISTERS = 54
 #: Bytes in one ROM bank.
@@ -109,7 +109,10 @@ class Refusal(Exception):
 
 
 class Save(NamedTuple):
-    """All that a cartridge needs to go on elsewhere; the ROM is brought by whoever goes on."""
+    """All that a cartridge needs to go on elsewhere; the ROM is brought by whoever goes on.
+
+    The frame store is the image of the last start, lit under the registers it took.
+    """
 
     state: bytes
     ram: bytes
@@ -371,7 +374,7 @@ class Cartridge:
         return _call("read", *_lent(self._state, self._rom, self._ram), address)
 
     def write(self, address, value):
-        """Writes a byte to an address; a start copies the image lent to the frame store."""
+        """Writes a byte to an address; a start lights the image lent into the frame store."""
         self._open()
         address, value = _up_to(0xFFFF, "the address", address), _up_to(0xFF, "the value", value)
         if self._recorder:

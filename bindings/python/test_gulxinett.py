@@ -471,10 +471,12 @@ class BadInput(unittest.TestCase):
         cartridge = begun(4)
         cartridge.tick(20_000)
         save = cartridge.save()
-        self.assertEqual(layout_of(save.state), LAYOUT)
-        before = (ROOT / "tests/data/layout-1.state").read_bytes()
-        later = bytes([LAYOUT + 1]) + save.state[1:]
-        for layout, state in ((1, before), (LAYOUT + 1, later)):
+        self.assertEqual((LAYOUT, layout_of(save.state)), (3, 3))
+        first, second = ((ROOT / "tests/data" / name).read_bytes() for name in ("layout-1.state", "layout-2.state"))
+        # each is of a capture half way
+        self.assertEqual((first[3], second[4]), (1, 1))
+        later = bytes([4]) + save.state[1:]
+        for layout, state in ((1, first), (2, second), (4, later)):
             self.assertEqual(layout_of(state), layout)
             sentence = "the state is of layout %d, and this program reads layout %d: another version saved it"
             with self.assertRaisesRegex(Refusal, sentence % (layout, LAYOUT)) as caught:

@@ -7,7 +7,7 @@ pub const REGISTERS: usize = 54;
 /// Bytes of the record as [`State::to_bytes`] lays it out.
 pub const RECORD_BYTES: usize = 13 + 2 * REGISTERS;
 /// The number of that layout, which the record begins with.
-pub const LAYOUT: u8 = 2;
+pub const LAYOUT: u8 = 3;
 
 const SELECT_REGISTERS: u8 = 0x10;
 const CAPTURE_BIT: u8 = 1;

@@ -598,10 +598,13 @@ function layouts() {
   const cartridge = begin(new Cartridge(), 4);
   cartridge.tick(20_000);
   const save = cartridge.save();
-  assert.equal(layoutOf(save.state), LAYOUT);
-  const before = readFileSync(new URL("../../../tests/data/layout-1.state", import.meta.url));
-  const later = Uint8Array.from(save.state, (byte, place) => (place === 0 ? LAYOUT + 1 : byte));
-  for (const [layout, state] of [[1, new Uint8Array(before)], [LAYOUT + 1, later]]) {
+  assert.deepEqual([LAYOUT, layoutOf(save.state)], [3, 3]);
+  const kept = (layout) => new Uint8Array(readFileSync(new URL(`../../../tests/data/layout-${layout}.state`, import.meta.url)));
+  const [first, second] = [kept(1), kept(2)];
+  // each is of a capture half way
+  assert.deepEqual([first[3], second[4]], [1, 1]);
+  const later = Uint8Array.from(save.state, (byte, place) => (place === 0 ? 4 : byte));
+  for (const [layout, state] of [[1, first], [2, second], [4, later]]) {
     assert.equal(layoutOf(state), layout);
     const sentence = `the state is of layout ${layout}, and this program reads layout ${LAYOUT}: another version saved it`;
     assert.throws(() => Cartridge.restore({ ...save, state }), { name: "Refusal", number: 1, message: sentence });

@@ -1,6 +1,6 @@
 //! The calls over the record's bytes, exactly as the C functions take and answer them.
 //!
-//! Bytes of another length than 121, whose byte 0 is not the layout number 2, or whose byte 1 or 4 is
+//! Bytes of another length than 121, whose byte 0 is not the layout number 3, or whose byte 1 or 4 is
 //! above 1, are refused as [`Refusal::State`].
 
 use crate::{ffi, Refusal, PICTURE_BYTES, REGISTERS};

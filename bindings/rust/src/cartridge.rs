@@ -26,7 +26,7 @@ pub struct Save {
     pub state: Vec<u8>,
     /// The RAM.
     pub ram: Vec<u8>,
-    /// The frame store.
+    /// The frame store: the image of the last start, lit under the registers it took.
     pub store: Vec<u8>,
 }
 
@@ -108,7 +108,7 @@ impl Cartridge {
         read(&self.state, &self.rom, &self.ram, address)
     }
 
-    /// Writes a byte to an address; a start copies the image lent to the frame store.
+    /// Writes a byte to an address; a start lights the image lent into the frame store.
     pub fn write(&mut self, address: u16, value: u8) -> Result<(), Refusal> {
         let Cartridge {
             state,

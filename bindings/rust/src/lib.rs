@@ -7,6 +7,9 @@
 //! - RAM: 8,192 bytes times 1, 2, 4, 8 or 16, else [`Refusal::Ram`];
 //! - image and frame store: 16,384 bytes each, else [`Refusal::Frame`].
 //!
+//! The image has the light of each pixel, the frame store the value 0 to 255 that a start made of it under
+//! the registers it took, before the filters. Whatever store is lent is read as such values.
+//!
 //! A refused call changes neither the state nor a byte lent. The lowest refusal is given.
 //! [`Cartridge`] owns all of these and has the calls as methods.
 //! [`salvage`] cleans a bus script. [`bytes`] has the same calls over the record's bytes, as the C functions take it.
@@ -23,7 +26,7 @@ pub use state::{layout_of, State};
 /// Bytes of the state record.
 pub const STATE_BYTES: usize = 121;
 /// The layout of these bytes, which their first one says; bytes of another layout are refused as 1.
-pub const LAYOUT: u8 = 2;
+pub const LAYOUT: u8 = 3;
 /// Camera registers.
 pub const REGISTERS: usize = 54;
 /// Bytes in one ROM bank.
@@ -191,7 +194,7 @@ pub fn read(state: &State, rom: &[u8], ram: &[u8], address: u16) -> Result<u8, R
     Ok(value as u8)
 }
 
-/// Writes a byte to an address; a start copies the image to the frame store.
+/// Writes a byte to an address; a start lights the image into the frame store.
 pub fn write(
     state: &mut State,
     ram: &mut [u8],

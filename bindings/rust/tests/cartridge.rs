@@ -392,14 +392,21 @@ fn captures_are_counted() -> Result<(), Refusal> {
     Ok(())
 }
 
-/// A state that another version saved is refused, with a sentence that says so.
+/// A state that another version saved is refused, with a sentence that says so, and never finished.
 #[test]
 fn saves_of_another_layout() {
     let good = half_way().save();
-    assert_eq!(layout_of(&good.state), Some(LAYOUT));
-    let before = include_bytes!("../../../tests/data/layout-1.state").to_vec();
-    let later = [&[LAYOUT + 1], &good.state[1..]].concat();
-    for (layout, state) in [(1, before), (LAYOUT + 1, later)] {
+    assert_eq!((LAYOUT, layout_of(&good.state)), (3, Some(3)));
+    let first = include_bytes!("../../../tests/data/layout-1.state").to_vec();
+    let second = include_bytes!("../../../tests/data/layout-2.state").to_vec();
+    // each is of a capture half way
+    assert_eq!((first[3], second[4]), (1, 1));
+    let later = [&[4], &good.state[1..]].concat();
+    for (layout, state) in [(1, first), (2, second), (4, later)] {
+        let (mut ticked, mut ram) = (state.clone(), good.ram.clone());
+        let refused = bytes::tick(&mut ticked, &mut ram, &good.store, u32::MAX).result();
+        assert_eq!(refused, Err(Refusal::State));
+        assert!(ticked == state && ram == good.ram);
         assert_eq!(layout_of(&state), Some(layout));
         let save = Save {
             state,

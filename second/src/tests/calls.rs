@@ -340,7 +340,7 @@ fn records() {
     (state.elapsed, state.rom_bank, state.ram_select) = (0x0102_0304, 5, 6);
     (state.started, state.ended) = (0x0807, 0x0A09);
     let bytes = state.to_bytes();
-    let start = [2, 0, 5, 6, 1, 4, 3, 2, 1, 7, 8, 9, 10];
+    let start = [3, 0, 5, 6, 1, 4, 3, 2, 1, 7, 8, 9, 10];
     assert_eq!(
         bytes[..],
         [&start[..], &state.registers, &state.taken].concat()
@@ -350,9 +350,22 @@ fn records() {
     for other in [&bytes[1..], &bytes[..120], &first_layout, &[]] {
         assert_eq!(State::from_bytes(other), None);
     }
-    for (place, byte) in [(0, 0), (0, 1), (0, 3), (0, 255), (1, 2), (4, 2), (4, 255)] {
+    for (place, byte) in [
+        (0, 0),
+        (0, 1),
+        (0, 2),
+        (0, 4),
+        (0, 255),
+        (1, 2),
+        (4, 2),
+        (4, 255),
+    ] {
         let mut bytes = bytes;
         bytes[place] = byte;
         assert_eq!(State::from_bytes(&bytes), None);
     }
+    // A capture half way, as the version saved it whose stores were raw.
+    let second_layout = include_bytes!("../../../tests/data/layout-2.state");
+    assert_eq!((second_layout[0], second_layout[4]), (2, 1));
+    assert_eq!(State::from_bytes(second_layout), None);
 }

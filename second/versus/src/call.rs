@@ -27,7 +27,7 @@ pub enum Call {
         cycles: u32,
     },
     Inspect,
-    /// The picture afresh of the image or the frame store.
+    /// The picture afresh of the image, or of the bytes that the frame store has, taken as one.
     Picture {
         of: Lent,
         registers: Box<[u8; 54]>,

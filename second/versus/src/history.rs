@@ -418,8 +418,8 @@ impl<'a> History<'a> {
             }
             6 => return [&record[..], &[0]].concat().into(),
             7 => {
-                let later = 3 + random.below(253) as u8;
-                record[0] = random.pick(&[0, 1, 3, later]);
+                let later = 4 + random.below(252) as u8;
+                record[0] = random.pick(&[0, 1, 2, later]);
             }
             8 => return first_layout(&record).into(),
             9 if held => match random.below(3) {

@@ -126,6 +126,12 @@ fn compare(calls: u64, seed: u64, answers: Option<Answers>) -> Option<Option<Ans
     sweep::readings(&mut tally, &mut random);
     println!("readings: {} calls compared", tally.compared - before);
     let before = tally.compared;
+    sweep::starts(&mut tally, &mut random);
+    println!(
+        "captures begun by a start: {} calls compared",
+        tally.compared - before
+    );
+    let before = tally.compared;
     let [first, last] = rows::compare(&mut tally, &mut random);
     println!(
         "rows outside 7 to 120: {} calls compared; row 7 changes the picture in {first} of 64 settings, \

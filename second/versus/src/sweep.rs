@@ -84,6 +84,9 @@ pub fn first_layout(record: &[u8]) -> Vec<u8> {
     [&record[1..9], &record[13..]].concat()
 }
 
+/// A capture half way as the version before #112 saved it, with a raw frame in its store.
+const SECOND_LAYOUT: &[u8] = include_bytes!("../../../tests/data/layout-2.state");
+
 /// Records that are refused or not, one for each reason.
 pub fn records() -> Vec<Choice<Vec<u8>>> {
     let free = State::RESET;
@@ -154,11 +157,13 @@ pub fn records() -> Vec<Choice<Vec<u8>>> {
         patched(held, &[(4, 0)]),
         patched(free, &[(0, 0)]),
         patched(held, &[(0, 1)]),
-        patched(stopped, &[(0, 3)]),
+        patched(held, &[(0, 2)]),
+        patched(stopped, &[(0, 4)]),
         patched(free, &[(0, 255)]),
         first_layout(&patched(free, &[])),
         first_layout(&patched(held, &[])),
         first_layout(&patched(free, &[(1, 2)])),
+        SECOND_LAYOUT.to_vec(),
         late(total),
         late(u32::MAX),
         Vec::new(),
@@ -444,8 +449,8 @@ pub fn exports(tally: &mut Tally, random: &mut Random) {
     }
 }
 
-/// The readings of captures in every mode, ratio, inversion and 1-D filter, held anywhere, running and
-/// not; and every combination of bad arguments.
+/// The readings of captures in every mode, ratio, inversion and 1-D filter, held anywhere over any lit
+/// values, running and not; and every combination of bad arguments.
 pub fn readings(tally: &mut Tally, random: &mut Random) {
     let mut side = Pair::new(&Beginning {
         rom_banks: 0,
@@ -487,6 +492,63 @@ pub fn readings(tally: &mut Tally, random: &mut Random) {
     }
 }
 
+/// Captures begun by a start: the store it leaves of every light at many exposures, inverted and not; and
+/// under every mode, ratio, inversion and 1-D filter the readings and the picture, half and whole, which
+/// must be the picture afresh of the image.
+pub fn starts(tally: &mut Tally, random: &mut Random) {
+    let mut side = Pair::new(&Beginning {
+        rom_banks: 0,
+        ram_banks: 1,
+        seed: 13,
+    })
+    .archive;
+    side.image = lend(16_384);
+    let edges = [0, 1, 0x7F, 0xFF, 0x100, 0x101, 0x1FF, 0x555, 0x7FFF, 0x8000];
+    let any = std::array::from_fn::<_, 120, _>(|_| random.next() as u16 >> random.below(12));
+    for exposure in edges.into_iter().chain([0xFFFE, 0xFFFF]).chain(any) {
+        for inverted in [0, 8] {
+            let mut taken = pleasant(random);
+            (taken[0], taken[4]) = (1, taken[4] & !8 | inverted);
+            taken[2..4].copy_from_slice(&exposure.to_be_bytes());
+            begin(tally, &mut side, &taken);
+        }
+    }
+    for setting in 0..1024 {
+        paint(&mut side.image, (setting % 5) as u8, random.next());
+        let taken = setting_of(setting, random);
+        let begun = begin(tally, &mut side, &taken);
+        tally.compare(&begun, &Call::Readings { room: 14_351 }, None);
+        let cycles = random.below(Timing::of(&taken).total());
+        let [_, half] = tally.compare(&begun, &Call::Tick { cycles }, None);
+        let ended = tally.compare(&half, &Call::Tick { cycles: u32::MAX }, None);
+        let fresh = draw(tally, &side, taken);
+        for (ended, fresh) in ended.iter().zip(fresh) {
+            let plate = &ended.ram[second::PLATE_OFFSET..][..second::PLATE_BYTES];
+            if let Some(place) = parted("plate and picture afresh", plate, &fresh.picture) {
+                let what = format!("a capture stopped at {cycles}: {place}\n  {}", hex(&taken));
+                tally.differences.push(what);
+            }
+        }
+    }
+}
+
+/// Starts a capture with such registers over the image lent; the side as the start leaves it.
+pub fn begin(tally: &mut Tally, side: &mut Side, taken: &[u8; 54]) -> Side {
+    let mut state = State {
+        ram_select: 16,
+        registers: *taken,
+        ..State::RESET
+    };
+    state.registers[0] &= 6;
+    side.state = state.to_bytes().to_vec();
+    let start = Call::Write {
+        address: 0xA000,
+        value: taken[0],
+    };
+    let [_, begun] = tally.compare(side, &start, None);
+    begun
+}
+
 /// Room for so many bytes, more often than not enough.
 pub fn room_for(bytes: usize, random: &mut Random) -> usize {
     match random.below(4) {
@@ -519,7 +581,7 @@ pub fn pictures(tally: &mut Tally, random: &mut Random) {
     }
 }
 
-fn draw(tally: &mut Tally, side: &Side, registers: [u8; 54]) {
+fn draw(tally: &mut Tally, side: &Side, registers: [u8; 54]) -> [Side; 2] {
     let registers = Box::new(registers);
     tally.compare(
         side,
@@ -528,7 +590,7 @@ fn draw(tally: &mut Tally, side: &Side, registers: [u8; 54]) {
             registers,
         },
         None,
-    );
+    )
 }
 
 /// Such registers under one of 1,024 settings: mode, inversion, ratio and 1-D filter.
