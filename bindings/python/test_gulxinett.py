@@ -311,12 +311,13 @@ class Calls(unittest.TestCase):
         with self.assertRaisesRegex(Refusal, "no capture is held") as refused:
             cartridge.readings()
         self.assertEqual(refused.exception.number, 11)
-        # at exposure 0100h the brightest light is read as 207, and inverted as 48
+        # at exposure 0100h the brightest light is stored and read as 207, and inverted as 48
         cartridge.reset()
         cartridge.lend(b"\xff" * FRAME_BYTES)
         for inverted, value in ((0, 207), (8, 48)):
             for address, byte in ((0x4000, 0x10), (0xA002, 1), (0xA004, inverted), (0xA000, 3)):
                 cartridge.write(address, byte)
+            self.assertEqual(cartridge.save().store, bytes([value]) * FRAME_BYTES)
             self.assertEqual(cartridge.readings()[15:], bytes([value]) * SHADES_BYTES)
             cartridge.tick(0xFFFF_FFFF)
 

@@ -223,11 +223,12 @@ function readings() {
   cartridge.tick(0xffff_ffff);
   assert.deepEqual(cartridge.plate(), dotted(read));
   refused(11, () => cartridge.readings());
-  // at exposure 0100h the brightest light is read as 207, and inverted as 48
+  // at exposure 0100h the brightest light is stored and read as 207, and inverted as 48
   cartridge.reset();
   cartridge.lend(new Uint8Array(FRAME_BYTES).fill(0xff));
   for (const [inverted, value] of [[0, 207], [8, 48]]) {
     for (const [address, byte] of [[0x4000, 0x10], [0xa002, 1], [0xa004, inverted], [0xa000, 3]]) cartridge.write(address, byte);
+    assert.ok(cartridge.save().store.every((lit) => lit === value));
     assert.ok(cartridge.readings().subarray(15).every((reading) => reading === value));
     cartridge.tick(0xffff_ffff);
   }

@@ -248,13 +248,14 @@ fn readings_before_the_dots() -> Result<(), Refusal> {
     cartridge.tick(u32::MAX)?;
     assert_eq!(cartridge.readings(), Err(Refusal::NotHeld));
     assert!(cartridge.plate() == dotted(&readings, &registers()));
-    // at exposure 0100h the brightest light is read as 207, and inverted as 48
+    // at exposure 0100h the brightest light is stored and read as 207, and inverted as 48
     cartridge.reset();
     cartridge.lend(&[0xFF; FRAME_BYTES])?;
     for (inverted, value) in [(0, 207), (8, 48)] {
         for (address, byte) in [(0x4000, 0x10), (0xA002, 1), (0xA004, inverted), (0xA000, 3)] {
             cartridge.write(address, byte)?;
         }
+        assert!(cartridge.save().store == [value; FRAME_BYTES]);
         assert!(cartridge.readings()?[15..] == [value; SHADES_BYTES]);
         cartridge.tick(u32::MAX)?;
     }

@@ -31,7 +31,7 @@ fn records_have_fields_apart() {
     for (place, byte) in bytes.iter_mut().enumerate() {
         *byte = place as u8;
     }
-    (bytes[0], bytes[1], bytes[4]) = (2, 1, 1);
+    (bytes[0], bytes[1], bytes[4]) = (3, 1, 1);
     let state = State::decode(&bytes).expect("the flags are 0 or 1");
     assert_eq!(
         (state.rom_bank, state.ram_select, state.elapsed),
@@ -42,32 +42,38 @@ fn records_have_fields_apart() {
     assert_eq!(state.encode(), bytes);
     bytes[4] = 2;
     assert_eq!(State::decode(&bytes), None);
-    (bytes[4], bytes[0]) = (1, 1);
-    assert_eq!(State::decode(&bytes), None);
+    bytes[4] = 1;
+    for layout in [0, 1, 2, 4, 255] {
+        bytes[0] = layout;
+        assert_eq!(State::decode(&bytes), None);
+    }
 }
 
 #[test]
 fn a_capture_stopped_and_resumed() {
-    let (mut state, mut ram, mut store) = (reset(), [0xFF; RAM_BANK], IMAGE);
-    let mut poke = |state: &mut State, ram: &mut [u8], address, value| {
-        write(state, ram, &mut store, &IMAGE, address, value)
+    let (mut state, mut ram) = (reset(), [0xFF; RAM_BANK]);
+    let mut store = [0x5A; FRAME_BYTES];
+    let poke = |state: &mut State, ram: &mut [u8], store: &mut [u8], address, value| {
+        write(state, ram, store, &IMAGE, address, value)
     };
-    poke(&mut state, &mut ram, 0x4000, 0x10).unwrap();
-    poke(&mut state, &mut ram, 0xA000, 3).unwrap();
+    poke(&mut state, &mut ram, &mut store, 0x4000, 0x10).unwrap();
+    poke(&mut state, &mut ram, &mut store, 0xA000, 3).unwrap();
+    // at exposure 0 every light becomes 0
+    assert_eq!(store, [0; FRAME_BYTES]);
     assert_eq!(read(&state, &ROM, &ram, 0xA000), Ok(3));
-    assert_eq!(tick(&mut state, &mut ram, &IMAGE, 0x8BA), Ok(0x8BA));
-    poke(&mut state, &mut ram, 0xA000, 2).unwrap();
-    poke(&mut state, &mut ram, 0x4000, 0).unwrap();
+    assert_eq!(tick(&mut state, &mut ram, &store, 0x8BA), Ok(0x8BA));
+    poke(&mut state, &mut ram, &mut store, 0xA000, 2).unwrap();
+    poke(&mut state, &mut ram, &mut store, 0x4000, 0).unwrap();
     assert_eq!(read(&state, &ROM, &ram, 0xA100), Ok(0x7F));
-    poke(&mut state, &mut ram, 0x4000, 0x10).unwrap();
-    poke(&mut state, &mut ram, 0xA000, 3).unwrap();
+    poke(&mut state, &mut ram, &mut store, 0x4000, 0x10).unwrap();
+    poke(&mut state, &mut ram, &mut store, 0xA000, 3).unwrap();
     let mut taken = [0; REGISTERS];
     taken[0] = 3;
     assert_eq!(
         (state.held, state.taken, state.elapsed),
         (true, taken, 0x8BA)
     );
-    assert_eq!(tick(&mut state, &mut ram, &IMAGE, u32::MAX), Ok(0x7804));
+    assert_eq!(tick(&mut state, &mut ram, &store, u32::MAX), Ok(0x7804));
     let plate = picture(&IMAGE, &taken).unwrap();
     assert_eq!(plate, ram[PICTURE_OFFSET..PICTURE_OFFSET + PICTURE_BYTES]);
 }
