@@ -1,7 +1,7 @@
 //! The picture area as a grey image, a Netpbm file of kind P5, out and in, and as shades; the readings too.
 
 use crate::bus::{check_frame, check_ram};
-use crate::picture::{self, OCTET, PLATE_AREA};
+use crate::picture::{self, gather, OCTET, PLATE_AREA, TILE};
 use crate::{Plate, Refusal, State, PICTURE_WIDTH, PIXELS, PLATE_BYTES};
 use std::ops::Range;
 
@@ -10,8 +10,6 @@ const HEADER: &[u8] = b"P5\n128 112\n255\n";
 /// Bytes of a file, header and pixels.
 pub const GREY_FILE_BYTES: usize = HEADER.len() + PIXELS;
 
-/// Bytes of a tile of 8 by 8 pixels.
-const TILE: usize = 16;
 /// Bytes of the tiles beside each other.
 const TILE_ROW: usize = TILE * PICTURE_WIDTH / 8;
 
@@ -118,11 +116,4 @@ fn spread(byte: u8) -> u64 {
     const BITS: u64 = u64::from_le_bytes([0x80, 0x40, 0x20, 0x10, 8, 4, 2, 1]);
     let bits = (u64::from(byte) * ONES) & BITS;
     ((bits + 0x7F * ONES) >> 7) & ONES
-}
-
-/// Eight bytes of 0 or 1 as the bits of a byte, the lowest as bit 7; the undoing of [`spread`].
-fn gather(bits: u64) -> u8 {
-    // Byte x goes to bit 63 - x, and no two products meet.
-    const PLACES: u64 = 0x8040_2010_0804_0201;
-    (bits.wrapping_mul(PLACES) >> 56) as u8
 }

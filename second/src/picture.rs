@@ -27,10 +27,14 @@ pub(crate) const MATRIX: usize = 6;
 /// The bytes of a picture, as they lie in RAM bank 0 from offset 100h.
 pub type Plate = [u8; PLATE_BYTES];
 
-/// Pixels that share two bytes of a tile.
+/// Pixels that share two bytes of a tile, and rows of one.
 pub(crate) const OCTET: usize = 8;
+/// Bytes of a tile of 8 by 8 pixels.
+pub(crate) const TILE: usize = 16;
 /// Edge ratios in quarters: 50, 75, 100, 125, 200, 300, 400 and 500 per cent.
 const RATIOS: [i16; 8] = [2, 3, 4, 5, 8, 12, 16, 20];
+/// Fewer pixels than this are drawn one by one: a row is worked out as a whole, which takes as long.
+const FEW: usize = 12;
 
 /// The whole picture of an image under the registers taken.
 pub fn picture(image: &[u8], registers: &[u8; REGISTERS]) -> Result<Plate, Refusal> {
@@ -69,35 +73,30 @@ pub(crate) fn draw(
         return;
     }
     let sensor = Sensor::new(store, registers);
-    let mut strip = |rows, columns: Range<usize>| {
-        sensor.strip(rows, columns.clone(), |y, values| {
-            sensor.dither(plate, y, values, &columns)
-        })
-    };
+    if pixels.len() < FEW {
+        pixels.for_each(|pixel| sensor.draw_pixel(plate, pixel));
+        return;
+    }
     let (first, left) = (pixels.start / PICTURE_WIDTH, pixels.start % PICTURE_WIDTH);
     let (last, right) = (pixels.end / PICTURE_WIDTH, pixels.end % PICTURE_WIDTH);
     if first == last {
-        return strip(first..first + 1, left..right);
+        return sensor.draw_part(plate, first, left..right);
     }
-    let whole = first + usize::from(left > 0)..last;
     if left > 0 {
-        strip(first..first + 1, left..PICTURE_WIDTH);
+        sensor.draw_part(plate, first, left..PICTURE_WIDTH);
     }
-    if !whole.is_empty() {
-        strip(whole, 0..PICTURE_WIDTH);
-    }
+    sensor.draw_rows(plate, first + usize::from(left > 0)..last);
     if right > 0 {
-        strip(last..last + 1, 0..right);
+        sensor.draw_part(plate, last, 0..right);
     }
 }
 
 /// The values 0 to 255 of all picture pixels, before the matrix makes shades of them.
 pub(crate) fn values(pixels: &mut [u8], store: &[u8], registers: &[u8; REGISTERS]) {
-    let sensor = Sensor::new(store, registers);
-    sensor.strip(0..PICTURE_HEIGHT, 0..PICTURE_WIDTH, |y, values| {
+    Sensor::new(store, registers).each_row(0..PICTURE_HEIGHT, |y, values| {
         let row = &mut pixels[y * PICTURE_WIDTH..][..PICTURE_WIDTH];
-        for (pixel, value) in row.iter_mut().zip(values) {
-            *pixel = (value + 128) as u8;
+        for (pixel, &value) in row.iter_mut().zip(values) {
+            *pixel = raised(value);
         }
     });
 }
@@ -127,25 +126,29 @@ enum OneD {
     Difference,
 }
 
-/// A row of signed values with its edge pixels repeated: column x is at x + 1.
-type Lit = [i16; SENSOR_WIDTH + 2];
-/// A row of values, column x at x.
-type Row = [i16; SENSOR_WIDTH];
+/// A row of the store.
+type Lit = [u8; SENSOR_WIDTH];
+/// A row of signed values, which eight bits hold from step 4 on.
+type Row = [i8; SENSOR_WIDTH];
+/// The two bytes of each octet of a row.
+type Planes = [[u8; 2]; PICTURE_WIDTH / OCTET];
 
 /// A store and what the registers taken ask to be made of it.
 struct Sensor<'a> {
     store: &'a [u8; FRAME_BYTES],
     edge: Edge,
-    /// The pixel itself is added to its edge value.
-    enhances: bool,
+    /// What a pixel weighs in quarters: its part in the edge value, and 4 if it is added to that.
+    centre: i16,
+    /// What each of its neighbours weighs, to be subtracted.
     ratio: i16,
+    /// What is subtracted besides for lit values to count from 128, where they don't cancel out.
+    level: i16,
     one_d: OneD,
     matrix: &'a [u8],
 }
 
 impl<'a> Sensor<'a> {
     fn new(store: &'a [u8], registers: &'a [u8; REGISTERS]) -> Self {
-        let ratio = registers[4] >> 4 & 7;
         let mode = registers[1] >> 5 << 1 | registers[4] >> 7;
         let (edge, enhances) = match mode {
             0x1 => (Edge::Blank, false),
@@ -162,166 +165,233 @@ impl<'a> Sensor<'a> {
             (0 | 2 | 3, 2 | 3) => OneD::Difference,
             _ => OneD::Plain,
         };
+        let ratio = RATIOS[usize::from(registers[4] >> 4 & 7)];
+        let neighbours = if edge == Edge::Both { 4 } else { 2 };
+        let itself = if enhances { 4 } else { 0 };
         Sensor {
             store: store
                 .try_into()
                 .expect("the store's size is checked before"),
             edge,
-            enhances,
-            ratio: RATIOS[usize::from(ratio)],
+            centre: itself + neighbours * ratio,
+            ratio,
+            level: 128 * itself,
             one_d,
             matrix: &registers[MATRIX..],
         }
     }
 
-    /// How many rows above and below a pixel count; none of them lies outside 7 to 120.
-    fn reach(&self) -> (usize, usize) {
-        match (self.edge, self.one_d) {
-            (Edge::Down | Edge::Both, _) => (1, 1),
-            (_, OneD::Difference) => (0, 1),
-            _ => (0, 0),
-        }
+    /// Draws whole picture rows.
+    fn draw_rows(&self, plate: &mut [u8], rows: Range<usize>) {
+        let thresholds: [_; 4] = std::array::from_fn(|y| Thresholds::new(self.matrix, y));
+        self.each_row(rows, |y, values| {
+            let planes = thresholds[y % 4].shade(values);
+            let tiles = plate[place(0, y)..].chunks_mut(TILE);
+            for (tile, plane) in tiles.zip(planes) {
+                tile[..2].copy_from_slice(&plane);
+            }
+        });
     }
 
-    /// Hands on the same columns of some picture rows as signed values, each sensor row loaded once.
-    fn strip(&self, rows: Range<usize>, columns: Range<usize>, mut each: impl FnMut(usize, &Row)) {
-        let (above, below) = self.reach();
-        let first = rows.start + FIRST_ROW;
-        let mut lit = [[0; SENSOR_WIDTH + 2]; 3];
-        for row in first - above..first + below {
-            self.load(&mut lit[row % 3], row, &columns);
-        }
+    /// Draws some columns of a picture row.
+    fn draw_part(&self, plate: &mut [u8], y: usize, columns: Range<usize>) {
+        let thresholds = Thresholds::new(self.matrix, y);
+        self.each_row(y..y + 1, |y, values| {
+            let planes = thresholds.shade(values);
+            for octet in columns.start / OCTET..columns.end.div_ceil(OCTET) {
+                let left = columns.start.saturating_sub(octet * OCTET);
+                let right = (columns.end - octet * OCTET).min(OCTET);
+                let mask = (0xFF_u8 >> left) & (0xFF00_u16 >> right) as u8;
+                put(plate, place(octet * OCTET, y), mask, planes[octet]);
+            }
+        });
+    }
+
+    /// Draws one picture pixel.
+    fn draw_pixel(&self, plate: &mut [u8], pixel: usize) {
+        let (x, y) = (pixel % PICTURE_WIDTH, pixel / PICTURE_WIDTH);
+        let value = raised(self.value(x, y + FIRST_ROW));
+        let element = &self.matrix[3 * (4 * (y % 4) + x % 4)..][..3];
+        let shade = match () {
+            () if value < element[0] => [0xFF, 0xFF],
+            () if value < element[1] => [0, 0xFF],
+            () if value < element[2] => [0xFF, 0],
+            () => [0, 0],
+        };
+        put(plate, place(x, y), 0x80 >> (x % OCTET), shade);
+    }
+
+    /// Hands on some picture rows as signed values, each sensor row filtered once.
+    fn each_row(&self, rows: Range<usize>, mut each: impl FnMut(usize, &Row)) {
         let mut here = [0; SENSOR_WIDTH];
-        let mut next = [0; SENSOR_WIDTH];
+        let mut below = [0; SENSOR_WIDTH];
         if self.one_d == OneD::Difference {
-            self.filter(&mut next, &lit, first, &columns);
+            self.filter(&mut below, rows.start + FIRST_ROW);
         }
         for y in rows {
             let row = y + FIRST_ROW;
-            self.load(&mut lit[(row + below) % 3], row + below, &columns);
-            if self.one_d == OneD::Difference {
-                here = next;
-                self.filter(&mut next, &lit, row + 1, &columns);
-            } else {
-                self.filter(&mut here, &lit, row, &columns);
+            match self.one_d {
+                OneD::Plain => self.filter(&mut here, row),
+                OneD::Negative => {
+                    self.filter(&mut here, row);
+                    here.iter_mut().for_each(|p| *p = 0_i8.saturating_sub(*p));
+                }
+                OneD::Difference => {
+                    here = below;
+                    self.filter(&mut below, row + 1);
+                    let pairs = here.iter_mut().zip(&below);
+                    pairs.for_each(|(p, s)| *p = p.saturating_sub(*s));
+                }
             }
-            self.filter_one_d(&mut here[columns.clone()], &next[columns.clone()]);
             each(y, &here);
         }
     }
 
-    /// The signed values of a sensor row, one column more on either side.
-    fn load(&self, lit: &mut Lit, row: usize, columns: &Range<usize>) {
-        let row = &self.store[row * SENSOR_WIDTH..][..SENSOR_WIDTH];
-        let wide = columns.start.saturating_sub(1)..(columns.end + 1).min(SENSOR_WIDTH);
-        let places = &mut lit[wide.start + 1..wide.end + 1];
-        for (place, &v) in places.iter_mut().zip(&row[wide]) {
-            *place = i16::from(v) - 128;
-        }
-        lit[0] = lit[1];
-        lit[SENSOR_WIDTH + 1] = lit[SENSOR_WIDTH];
+    /// A row of the sensor; none that is asked for lies outside 7 to 121.
+    fn row(&self, row: usize) -> &Lit {
+        let bytes = self.store[row * SENSOR_WIDTH..].first_chunk();
+        bytes.expect("the row lies in the store")
     }
 
-    /// Step 4 for a sensor row, in quarters that are cut toward zero at the end.
-    fn filter(&self, out: &mut Row, lit: &[Lit; 3], row: usize, columns: &Range<usize>) {
-        let centre = columns.start + 1..columns.end + 1;
-        let out = &mut out[columns.clone()];
-        let p = &lit[row % 3][centre.clone()];
-        let w = &lit[row % 3][columns.clone()];
-        let e = &lit[row % 3][columns.start + 2..columns.end + 2];
-        let n = &lit[(row + 2) % 3][centre.clone()];
-        let s = &lit[(row + 1) % 3][centre];
+    /// Step 4 for a sensor row.
+    fn filter(&self, out: &mut Row, row: usize) {
+        let (n, p, s) = (self.row(row - 1), self.row(row), self.row(row + 1));
+        let beside = |[w, e]: [&Lit; 2], x: usize| i16::from(w[x]) + i16::from(e[x]);
         match self.edge {
-            Edge::Plain => out.copy_from_slice(p),
+            Edge::Plain => (0..SENSOR_WIDTH).for_each(|x| out[x] = lowered(p[x])),
             Edge::Blank => out.fill(0),
-            Edge::Across => self.sharpen(out, p, |i| 2 * p[i] - w[i] - e[i]),
-            Edge::Down => self.sharpen(out, p, |i| 2 * p[i] - n[i] - s[i]),
-            Edge::Both => self.sharpen(out, p, |i| 4 * p[i] - n[i] - s[i] - e[i] - w[i]),
-        }
-    }
-
-    /// Weighs the edge values; at most 1,020 × 20 + 512 quarters, so 16 bits hold them.
-    fn sharpen(&self, out: &mut [i16], p: &[i16], edge: impl Fn(usize) -> i16) {
-        let base = if self.enhances { 4 } else { 0 };
-        for (i, out) in out.iter_mut().enumerate() {
-            let quarters = base * p[i] + edge(i) * self.ratio;
-            *out = held(quarters / 4);
-        }
-    }
-
-    /// Step 5 for a row, given the one below if it counts.
-    fn filter_one_d(&self, row: &mut [i16], below: &[i16]) {
-        match self.one_d {
-            OneD::Plain => {}
-            OneD::Negative => row.iter_mut().for_each(|p| *p = held(-*p)),
-            OneD::Difference => row
-                .iter_mut()
-                .zip(below)
-                .for_each(|(p, s)| *p = held(*p - s)),
-        }
-    }
-
-    /// Steps 6 and 7: shades a row by octets and puts only its columns into the tiles.
-    fn dither(&self, plate: &mut [u8], y: usize, row: &Row, columns: &Range<usize>) {
-        let octets = columns.start / OCTET..columns.end.div_ceil(OCTET);
-        let thresholds = Thresholds::new(self.matrix, y);
-        let mut planes = [0; SENSOR_WIDTH / OCTET];
-        thresholds.shade(&row[octets.start * OCTET..octets.end * OCTET], &mut planes);
-        let place = 256 * (y / 8) + 2 * (y % 8);
-        for (octet, plane) in octets.zip(planes) {
-            let left = columns.start.saturating_sub(octet * OCTET);
-            let right = (columns.end - octet * OCTET).min(OCTET);
-            let mask = (0xFF_u8 >> left) & (0xFF00_u16 >> right) as u8;
-            let bytes = &mut plate[place + 16 * octet..][..2];
-            for (byte, plane) in bytes.iter_mut().zip(plane.to_le_bytes()) {
-                *byte = *byte & !mask | plane & mask;
+            Edge::Across => {
+                let wide = widened(p);
+                let sides = sides(&wide);
+                self.sharpen(out, p, |x| beside(sides, x));
+            }
+            Edge::Down => self.sharpen(out, p, |x| beside([n, s], x)),
+            Edge::Both => {
+                let wide = widened(p);
+                let sides = sides(&wide);
+                self.sharpen(out, p, |x| beside([n, s], x) + beside(sides, x));
             }
         }
     }
+
+    /// Weighs a row's pixels against the sums of those around them.
+    #[inline(always)]
+    fn sharpen(&self, out: &mut Row, p: &Lit, around: impl Fn(usize) -> i16) {
+        for x in 0..SENSOR_WIDTH {
+            out[x] = self.weighed(p[x], around(x));
+        }
+    }
+
+    /// An edge value in quarters, cut toward zero and held to eight bits; the quarters are at most
+    /// 1,020 × 20 + 512, and no part of their sum is more than 16 bits hold.
+    #[inline(always)]
+    fn weighed(&self, p: u8, around: i16) -> i8 {
+        let quarters = self.centre * i16::from(p) - self.level - self.ratio * around;
+        (quarters / 4).clamp(-128, 127) as i8
+    }
+
+    /// Steps 4 and 5 for one sensor pixel.
+    fn value(&self, x: usize, row: usize) -> i8 {
+        let value = self.filtered(x, row);
+        match self.one_d {
+            OneD::Plain => value,
+            OneD::Negative => 0_i8.saturating_sub(value),
+            OneD::Difference => value.saturating_sub(self.filtered(x, row + 1)),
+        }
+    }
+
+    /// Step 4 for one sensor pixel; beyond the first and last column these are repeated.
+    fn filtered(&self, x: usize, row: usize) -> i8 {
+        let p = self.row(row)[x];
+        let across = || {
+            let row = self.row(row);
+            i16::from(row[x.saturating_sub(1)]) + i16::from(row[(x + 1).min(SENSOR_WIDTH - 1)])
+        };
+        let down = || i16::from(self.row(row - 1)[x]) + i16::from(self.row(row + 1)[x]);
+        match self.edge {
+            Edge::Plain => lowered(p),
+            Edge::Blank => 0,
+            Edge::Across => self.weighed(p, across()),
+            Edge::Down => self.weighed(p, down()),
+            Edge::Both => self.weighed(p, across() + down()),
+        }
+    }
 }
 
-/// Holds a value to what eight signed bits can say.
-fn held(value: i16) -> i16 {
-    value.clamp(-128, 127)
+/// A row with its edge pixels repeated: column x is at x + 1.
+fn widened(row: &Lit) -> [u8; SENSOR_WIDTH + 2] {
+    let mut wide = [0; SENSOR_WIDTH + 2];
+    wide[1..=SENSOR_WIDTH].copy_from_slice(row);
+    (wide[0], wide[SENSOR_WIDTH + 1]) = (row[0], row[SENSOR_WIDTH - 1]);
+    wide
 }
 
-/// The three values of a matrix row for eight columns, less 128 to meet signed values.
-struct Thresholds {
-    l: [i16; OCTET],
-    m: [i16; OCTET],
-    h: [i16; OCTET],
+/// The pixels west and east of each column of such a row.
+fn sides(wide: &[u8; SENSOR_WIDTH + 2]) -> [&Lit; 2] {
+    [0, 2].map(|first| wide[first..].first_chunk().expect("it is wide enough"))
 }
+
+/// A value less 128.
+fn lowered(value: u8) -> i8 {
+    (value ^ 0x80) as i8
+}
+
+/// A value with 128 added again.
+fn raised(value: i8) -> u8 {
+    value as u8 ^ 0x80
+}
+
+/// Where in the plate the two bytes lie that have a pixel.
+fn place(x: usize, y: usize) -> usize {
+    TILE * (PICTURE_WIDTH / OCTET * (y / OCTET) + x / OCTET) + 2 * (y % OCTET)
+}
+
+/// Puts the bits of a mask into two bytes of the plate.
+fn put(plate: &mut [u8], place: usize, mask: u8, plane: [u8; 2]) {
+    for (byte, plane) in plate[place..][..2].iter_mut().zip(plane) {
+        *byte = *byte & !mask | plane & mask;
+    }
+}
+
+/// Columns that are shaded at once: a few times the matrix's four.
+const SPAN: usize = 16;
+
+/// The three values of a matrix row, less 128 to meet signed values.
+struct Thresholds([[i8; SPAN]; 3]);
 
 impl Thresholds {
     fn new(matrix: &[u8], y: usize) -> Self {
         let row = &matrix[12 * (y % 4)..][..12];
-        let spread = |level| std::array::from_fn(|x| i16::from(row[3 * (x % 4) + level]) - 128);
-        Thresholds {
-            l: spread(0),
-            m: spread(1),
-            h: spread(2),
-        }
+        let spread = |level| std::array::from_fn(|x| lowered(row[3 * (x % 4) + level]));
+        Thresholds([0, 1, 2].map(spread))
     }
 
-    /// The low and the high bits of the shades of each octet; kept apart, it is compiled to whole octets.
-    #[inline(never)]
-    fn shade(&self, row: &[i16], planes: &mut [u16]) {
-        for (values, plane) in row.chunks_exact(OCTET).zip(planes) {
-            let mut bits = [0; OCTET];
-            for x in 0..OCTET {
-                let black = values[x] < self.l[x];
-                let dark = values[x] < self.m[x];
-                let light = values[x] < self.h[x];
-                let low = if black | (!dark & light) {
-                    0x0080 >> x
-                } else {
-                    0
-                };
-                let high = if black | dark { 0x8000 >> x } else { 0 };
-                bits[x] = low | high;
+    /// The low and the high bits of the shades of each octet.
+    fn shade(&self, row: &Row) -> Planes {
+        let Thresholds([l, m, h]) = self;
+        let mut bits = [[0; SENSOR_WIDTH]; 2];
+        for first in (0..SENSOR_WIDTH).step_by(SPAN) {
+            for i in 0..SPAN {
+                let value = row[first + i];
+                let (black, dark, light) = (value < l[i], value < m[i], value < h[i]);
+                bits[0][first + i] = u8::from(black | (!dark & light));
+                bits[1][first + i] = u8::from(black | dark);
             }
-            // No two pixels share a bit, so their sum gathers them.
-            *plane = bits.iter().sum();
         }
+        std::array::from_fn(|octet| {
+            bits.each_ref().map(|bits| {
+                let bits = bits[octet * OCTET..].first_chunk();
+                gather(u64::from_le_bytes(
+                    *bits.expect("the octet lies in the row"),
+                ))
+            })
+        })
     }
+}
+
+/// Eight bytes of 0 or 1 as the bits of a byte, the lowest as bit 7.
+pub(crate) fn gather(bits: u64) -> u8 {
+    // Byte x goes to bit 63 - x, and no two products meet.
+    const PLACES: u64 = 0x8040_2010_0804_0201;
+    (bits.wrapping_mul(PLACES) >> 56) as u8
 }
