@@ -52,10 +52,10 @@ pub(crate) fn check_frame(frame: &[u8]) -> Result<(), Refusal> {
         .ok_or(Refusal::Frame)
 }
 
-/// Where in RAM the window shows an offset; banks repeat when there are fewer than 16.
+/// Where in RAM the window shows an offset; banks repeat when there are fewer than 16, and their
+/// count is a power of two, so that a mask repeats them.
 fn ram_place(state: &State, ram: &[u8], offset: usize) -> usize {
-    let bank = usize::from(state.ram_select % 16) % (ram.len() / RAM_BANK);
-    bank * RAM_BANK + offset
+    (usize::from(state.ram_select % 16) * RAM_BANK + offset) & (ram.len() - 1)
 }
 
 /// Reads the byte at an address.
@@ -63,6 +63,16 @@ pub fn read(state: &State, rom: &[u8], ram: &[u8], address: u16) -> Result<u8, R
     state.check()?;
     check_rom(rom)?;
     check_ram(ram)?;
+    read_judged(state, rom, ram, address)
+}
+
+/// Reads, where all that is lent is known to be allowed.
+pub(crate) fn read_judged(
+    state: &State,
+    rom: &[u8],
+    ram: &[u8],
+    address: u16,
+) -> Result<u8, Refusal> {
     Ok(match Area::of(address)? {
         Area::Rom(address) => rom[rom_place(state, rom, address.into())],
         Area::Window(offset) if state.shows_registers() => read_register(state, offset),
@@ -71,13 +81,12 @@ pub fn read(state: &State, rom: &[u8], ram: &[u8], address: u16) -> Result<u8, R
     })
 }
 
-/// Where in ROM an address lies; banks repeat when there are fewer than 64.
+/// Where in ROM an address lies; banks repeat as those of the RAM do when there are fewer than 64.
 fn rom_place(state: &State, rom: &[u8], address: usize) -> usize {
     if address < ROM_BANK {
         return address;
     }
-    let bank = usize::from(state.rom_bank) % (rom.len() / ROM_BANK);
-    bank * ROM_BANK + address % ROM_BANK
+    (usize::from(state.rom_bank) * ROM_BANK + address % ROM_BANK) & (rom.len() - 1)
 }
 
 /// Only register 0 can be read back.
@@ -102,6 +111,18 @@ pub fn write(
     check_ram(ram)?;
     check_frame(store)?;
     check_frame(image)?;
+    write_judged(state, ram, store, image, address, value)
+}
+
+/// Writes, where all that is lent is known to be allowed.
+pub(crate) fn write_judged(
+    state: &mut State,
+    ram: &mut [u8],
+    store: &mut [u8],
+    image: &[u8],
+    address: u16,
+    value: u8,
+) -> Result<(), Refusal> {
     match Area::of(address)? {
         Area::Rom(address) => write_control(state, address, value),
         Area::Window(offset) if state.shows_registers() => {
@@ -146,8 +167,13 @@ pub fn tick(state: &mut State, ram: &mut [u8], store: &[u8], cycles: u32) -> Res
     state.check()?;
     check_ram(ram)?;
     check_frame(store)?;
+    Ok(tick_judged(state, ram, store, cycles))
+}
+
+/// Lets cycles pass, where all that is lent is known to be allowed.
+pub(crate) fn tick_judged(state: &mut State, ram: &mut [u8], store: &[u8], cycles: u32) -> u32 {
     if !state.running() {
-        return Ok(0);
+        return 0;
     }
     let timing = Timing::of(&state.taken);
     let from = state.elapsed;
@@ -158,7 +184,7 @@ pub fn tick(state: &mut State, ram: &mut [u8], store: &[u8], cycles: u32) -> Res
     if to == timing.total() {
         state.finish();
     }
-    Ok(to - from)
+    to - from
 }
 
 /// An element of the 4 by 4 matrix.

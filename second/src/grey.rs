@@ -99,7 +99,7 @@ fn each_octet(plate: &[u8], pixels: &mut [u8], make: impl Fn(u64) -> u64) {
         let tiles = plate[tile_row(y)].chunks_exact(TILE);
         for (octet, tile) in row.chunks_exact_mut(OCTET).zip(tiles) {
             let (low, high) = (tile[2 * (y % 8)], tile[2 * (y % 8) + 1]);
-            let shades = spread(low) + 2 * spread(high);
+            let shades = SPREAD[usize::from(low)] + 2 * SPREAD[usize::from(high)];
             octet.copy_from_slice(&make(shades).to_le_bytes());
         }
     }
@@ -111,9 +111,17 @@ fn tile_row(y: usize) -> Range<usize> {
     first..first + TILE_ROW
 }
 
-/// The bits of a byte as eight bytes, bit 7 in the lowest.
-fn spread(byte: u8) -> u64 {
-    const BITS: u64 = u64::from_le_bytes([0x80, 0x40, 0x20, 0x10, 8, 4, 2, 1]);
-    let bits = (u64::from(byte) * ONES) & BITS;
-    ((bits + 0x7F * ONES) >> 7) & ONES
-}
+/// The bits of each byte as eight bytes of 0 or 1, bit 7 in the lowest; [`gather`] undoes it.
+static SPREAD: [u64; 256] = {
+    let mut spread = [0; 256];
+    let mut byte = 0;
+    while byte < 256 {
+        let mut bit = 0;
+        while bit < 8 {
+            spread[byte] |= (byte as u64 >> (7 - bit) & 1) << (8 * bit);
+            bit += 1;
+        }
+        byte += 1;
+    }
+    spread
+};

@@ -22,7 +22,7 @@ impl Lines {
 
     /// Takes the next piece of the stream and hands on each line that ends in it, none for one too long.
     pub fn feed(&mut self, mut piece: &[u8], mut each: impl FnMut(Option<&[u8]>)) {
-        while let Some(length) = piece.iter().position(|&byte| byte == b'\n') {
+        while let Some(length) = line_feed(piece) {
             let (line, rest) = (&piece[..length], &piece[length + 1..]);
             if self.seen == 0 {
                 each((length <= LONGEST_LINE).then_some(line));
@@ -54,6 +54,24 @@ impl Lines {
         let seen = std::mem::take(&mut self.seen);
         self.held.get(..seen)
     }
+}
+
+/// Where the first LF is, looked for in eight bytes at a time.
+fn line_feed(piece: &[u8]) -> Option<usize> {
+    const ONES: u64 = u64::from_ne_bytes([1; 8]);
+    const TOPS: u64 = ONES << 7;
+    let mut place = 0;
+    while let Some(eight) = piece[place..].first_chunk() {
+        // A byte that was LF is 0, and the lowest one of these is where a borrow sets a top bit first.
+        let others = u64::from_le_bytes(*eight) ^ (ONES * u64::from(b'\n'));
+        let found = others.wrapping_sub(ONES) & !others & TOPS;
+        if found != 0 {
+            return Some(place + found.trailing_zeros() as usize / 8);
+        }
+        place += 8;
+    }
+    let rest = piece[place..].iter().position(|&byte| byte == b'\n')?;
+    Some(place + rest)
 }
 
 impl Default for Lines {

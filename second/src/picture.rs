@@ -33,6 +33,9 @@ pub(crate) const OCTET: usize = 8;
 pub(crate) const TILE: usize = 16;
 /// Edge ratios in quarters: 50, 75, 100, 125, 200, 300, 400 and 500 per cent.
 const RATIOS: [i16; 8] = [2, 3, 4, 5, 8, 12, 16, 20];
+/// An exposure that makes 255 of the least that step 1 leaves, 48, so that none above it gives more;
+/// up to it signed 16 bits hold what step 2 makes.
+const ENOUGH: u16 = 255 * 256 / 48;
 /// Fewer pixels than this are drawn one by one: a row is worked out as a whole, which takes as long.
 const FEW: usize = 12;
 
@@ -48,12 +51,13 @@ pub fn picture(image: &[u8], registers: &[u8; REGISTERS]) -> Result<Plate, Refus
 
 /// Steps 1 to 3 before 128 is subtracted, for every pixel of an image.
 pub(crate) fn light(store: &mut [u8], image: &[u8], registers: &[u8; REGISTERS]) {
-    let exposure = u32::from(u16::from_be_bytes([registers[2], registers[3]]));
+    let exposure = u16::from_be_bytes([registers[2], registers[3]]);
+    let exposure = u32::from(exposure.min(ENOUGH));
     let flip = if registers[4] & 8 != 0 { 255 } else { 0 };
     for (lit, &v) in store.iter_mut().zip(image) {
         // The product is taken in the upper half of 32 bits to divide by 256.
         let exposed = (u32::from(adapt(v) << 8) * exposure) >> 16;
-        *lit = (exposed as u16).min(255) as u8 ^ flip;
+        *lit = (exposed as i16).clamp(0, 255) as u8 ^ flip;
     }
 }
 
@@ -210,14 +214,10 @@ impl<'a> Sensor<'a> {
     /// Draws one picture pixel.
     fn draw_pixel(&self, plate: &mut [u8], pixel: usize) {
         let (x, y) = (pixel % PICTURE_WIDTH, pixel / PICTURE_WIDTH);
-        let value = raised(self.value(x, y + FIRST_ROW));
+        let value = self.value(x, y + FIRST_ROW);
         let element = &self.matrix[3 * (4 * (y % 4) + x % 4)..][..3];
-        let shade = match () {
-            () if value < element[0] => [0xFF, 0xFF],
-            () if value < element[1] => [0, 0xFF],
-            () if value < element[2] => [0xFF, 0],
-            () => [0, 0],
-        };
+        let [l, m, h] = [0, 1, 2].map(|level| lowered(element[level]));
+        let shade = shade(value, l, m, h).map(|bit| 0_u8.wrapping_sub(bit.into()));
         put(plate, place(x, y), 0x80 >> (x % OCTET), shade);
     }
 
@@ -353,6 +353,13 @@ fn put(plate: &mut [u8], place: usize, mask: u8, plane: [u8; 2]) {
     }
 }
 
+/// Step 6: the low and the high bit of a value's shade, found without a branch.
+#[inline(always)]
+fn shade(value: i8, l: i8, m: i8, h: i8) -> [bool; 2] {
+    let (black, dark, light) = (value < l, value < m, value < h);
+    [black | (!dark & light), black | dark]
+}
+
 /// Columns that are shaded at once: a few times the matrix's four.
 const SPAN: usize = 16;
 
@@ -372,10 +379,9 @@ impl Thresholds {
         let mut bits = [[0; SENSOR_WIDTH]; 2];
         for first in (0..SENSOR_WIDTH).step_by(SPAN) {
             for i in 0..SPAN {
-                let value = row[first + i];
-                let (black, dark, light) = (value < l[i], value < m[i], value < h[i]);
-                bits[0][first + i] = u8::from(black | (!dark & light));
-                bits[1][first + i] = u8::from(black | dark);
+                let [low, high] = shade(row[first + i], l[i], m[i], h[i]);
+                bits[0][first + i] = low.into();
+                bits[1][first + i] = high.into();
             }
         }
         std::array::from_fn(|octet| {

@@ -1,6 +1,7 @@
 //! The bus script: one frame a line, one answer a line.
 
-use crate::{read, tick, write, Refusal, State, FRAME_BYTES, RAM_BANK, ROM_BANK, SENSOR_WIDTH};
+use crate::bus::{read_judged, tick_judged, write_judged};
+use crate::{Refusal, State, FRAME_BYTES, RAM_BANK, ROM_BANK, SENSOR_WIDTH};
 
 /// The last row of the image.
 const LAST_ROW: u8 = 0x7F;
@@ -15,36 +16,58 @@ pub enum Frame<Pixels = [u8; SENSOR_WIDTH]> {
     Row { row: u8, pixels: Pixels },
 }
 
+/// The pixels of a row as they stand in a line.
+type Digits = [u8; 2 * SENSOR_WIDTH];
+
 impl Frame {
     /// Takes a line apart, its LF left out; none if it is malformed.
     pub fn parse(line: &[u8]) -> Option<Frame> {
-        let (kind, rest) = line.split_at_checked(2)?;
-        match (number(kind)?, rest.len()) {
-            (0, 0) => Some(Frame::Reset),
-            (1, 4) => Some(Frame::Read {
-                address: number(rest)? as u16,
-            }),
-            (2, 6) => Some(Frame::Write {
-                address: number(&rest[..4])? as u16,
-                value: number(&rest[4..])? as u8,
-            }),
-            (3, 8) => Some(Frame::Tick {
-                cycles: number(rest)?,
-            }),
-            (4, 258) => Frame::parse_row(rest),
-            _ => None,
-        }
+        Some(match take_apart(line)? {
+            Frame::Reset => Frame::Reset,
+            Frame::Read { address } => Frame::Read { address },
+            Frame::Write { address, value } => Frame::Write { address, value },
+            Frame::Tick { cycles } => Frame::Tick { cycles },
+            Frame::Row { row, pixels } => Frame::Row {
+                row,
+                pixels: read_pixels(pixels)?,
+            },
+        })
     }
+}
 
-    fn parse_row(digits: &[u8]) -> Option<Frame> {
-        let (row, rest) = digits.split_at(2);
-        let row = number(row)? as u8;
-        let mut pixels = [0; SENSOR_WIDTH];
-        for (pixel, digits) in pixels.iter_mut().zip(rest.chunks_exact(2)) {
-            *pixel = number(digits)? as u8;
+/// Takes a line apart but for the pixels of a row, which are left as they stand.
+fn take_apart(line: &[u8]) -> Option<Frame<&Digits>> {
+    match line {
+        b"00" => Some(Frame::Reset),
+        [b'0', b'1', rest @ ..] => Some(Frame::Read {
+            address: number::<4>(rest)? as u16,
+        }),
+        [b'0', b'2', rest @ ..] => number::<6>(rest).map(|number| Frame::Write {
+            address: (number >> 8) as u16,
+            value: number as u8,
+        }),
+        [b'0', b'3', rest @ ..] => Some(Frame::Tick {
+            cycles: number::<8>(rest)?,
+        }),
+        [b'0', b'4', first, second, pixels @ ..] => {
+            let row = number::<2>(&[*first, *second])? as u8;
+            let pixels = pixels.try_into().ok()?;
+            (row <= LAST_ROW).then_some(Frame::Row { row, pixels })
         }
-        (row <= LAST_ROW).then_some(Frame::Row { row, pixels })
+        _ => None,
     }
+}
+
+/// The pixels of a row; none if one is not two digits.
+fn read_pixels(digits: &Digits) -> Option<[u8; SENSOR_WIDTH]> {
+    let mut pixels = [0; SENSOR_WIDTH];
+    let mut all = 0;
+    for (pixel, digits) in pixels.iter_mut().zip(digits.chunks_exact(2)) {
+        let [high, low] = [digits[0], digits[1]].map(value);
+        *pixel = high << 4 | low;
+        all |= high | low;
+    }
+    (all < NO_DIGIT).then_some(pixels)
 }
 
 impl<Pixels: AsRef<[u8]>> Frame<Pixels> {
@@ -91,30 +114,39 @@ fn put_digits(places: &mut [u8], bytes: &[u8]) {
     }
 }
 
-/// The number up to eight hexadecimal digits make; none if one is no digit.
-fn number(digits: &[u8]) -> Option<u32> {
-    digits.iter().try_fold(0, |number, &digit| {
-        Some(number << 4 | u32::from(value(digit)?))
-    })
+/// The number that so many hexadecimal digits make; none if there are more or fewer, or one is no digit.
+fn number<const COUNT: usize>(digits: &[u8]) -> Option<u32> {
+    let digits: &[u8; COUNT] = digits.try_into().ok()?;
+    let (mut number, mut all) = (0, 0);
+    for &digit in digits {
+        number = number << 4 | u32::from(value(digit));
+        all |= value(digit);
+    }
+    (all < NO_DIGIT).then_some(number)
 }
 
-/// The value of an upper-case digit.
-fn value(digit: u8) -> Option<u8> {
-    match digit {
-        b'0'..=b'9' => Some(digit - b'0'),
-        b'A'..=b'F' => Some(digit - b'A' + 10),
-        _ => None,
+/// What stands for the value of a byte that is no digit; no digit has that bit.
+const NO_DIGIT: u8 = 0x10;
+
+/// The value of each byte as an upper-case digit.
+const VALUES: [u8; 256] = {
+    let mut values = [NO_DIGIT; 256];
+    let mut value = 0;
+    while value < 16 {
+        values[b"0123456789ABCDEF"[value] as usize] = value as u8;
+        value += 1;
     }
+    values
+};
+
+/// The value of an upper-case digit.
+fn value(digit: u8) -> u8 {
+    VALUES[usize::from(digit)]
 }
 
 /// A byte as two digits.
 fn digits(byte: u8) -> [u8; 2] {
     [byte >> 4, byte & 15].map(|value| value + if value < 10 { b'0' } else { b'A' - 10 })
-}
-
-/// Appends a byte as two digits.
-fn push_byte(out: &mut Vec<u8>, byte: u8) {
-    out.extend(digits(byte));
 }
 
 /// What an accepted line is answered besides 00.
@@ -148,25 +180,27 @@ impl Session {
 
     /// Plays a line, its LF left out and none if it was too long, and appends the answer line.
     pub fn answer(&mut self, line: Option<&[u8]>, out: &mut Vec<u8>) {
-        let frame = line.and_then(Frame::parse).ok_or(Refusal::Line);
+        let frame = line.and_then(take_apart).ok_or(Refusal::Line);
         match frame.and_then(|frame| self.play(frame)) {
-            Ok(answer) => {
-                push_byte(out, 0);
-                match answer {
-                    Answer::Done => {}
-                    Answer::Byte(byte) => push_byte(out, byte),
-                    Answer::Cycles(cycles) => cycles
-                        .to_be_bytes()
-                        .into_iter()
-                        .for_each(|byte| push_byte(out, byte)),
-                }
+            Ok(Answer::Done) => out.extend_from_slice(b"00\n"),
+            Ok(Answer::Byte(byte)) => {
+                let [high, low] = digits(byte);
+                out.extend_from_slice(&[b'0', b'0', high, low, b'\n']);
             }
-            Err(refusal) => push_byte(out, refusal.number()),
+            Ok(Answer::Cycles(cycles)) => {
+                let mut line = *b"0000000000\n";
+                put_digits(&mut line[2..10], &cycles.to_be_bytes());
+                out.extend_from_slice(&line);
+            }
+            Err(refusal) => {
+                let [high, low] = digits(refusal.number());
+                out.extend_from_slice(&[high, low, b'\n']);
+            }
         }
-        out.push(b'\n');
     }
 
-    fn play(&mut self, frame: Frame) -> Result<Answer, Refusal> {
+    /// Plays a frame; the memory here has the right sizes, and every state comes from reset.
+    fn play(&mut self, frame: Frame<&Digits>) -> Result<Answer, Refusal> {
         let Session {
             state,
             rom,
@@ -176,10 +210,17 @@ impl Session {
         } = self;
         match frame {
             Frame::Reset => *state = State::RESET,
-            Frame::Read { address } => return read(state, rom, ram, address).map(Answer::Byte),
-            Frame::Write { address, value } => write(state, ram, store, image, address, value)?,
-            Frame::Tick { cycles } => return tick(state, ram, store, cycles).map(Answer::Cycles),
+            Frame::Read { address } => {
+                return read_judged(state, rom, ram, address).map(Answer::Byte)
+            }
+            Frame::Write { address, value } => {
+                write_judged(state, ram, store, image, address, value)?
+            }
+            Frame::Tick { cycles } => {
+                return Ok(Answer::Cycles(tick_judged(state, ram, store, cycles)))
+            }
             Frame::Row { row, pixels } => {
+                let pixels = read_pixels(pixels).ok_or(Refusal::Line)?;
                 image[usize::from(row) * SENSOR_WIDTH..][..SENSOR_WIDTH].copy_from_slice(&pixels)
             }
         }

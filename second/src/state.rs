@@ -50,6 +50,7 @@ impl State {
     };
 
     /// Whether some history of calls could lead here, by the paper's list.
+    #[inline]
     pub fn can_exist(&self) -> bool {
         let small = self.rom_bank <= 63 && self.ram_select <= 31 && self.registers[0] <= 7;
         small
@@ -66,10 +67,11 @@ impl State {
     }
 
     fn free_fits(&self) -> bool {
-        !self.busy() && self.elapsed == 0 && self.taken == [0; REGISTERS]
+        !self.busy() && self.elapsed == 0 && all_zero(&self.taken)
     }
 
     /// Refuses a record that can't exist.
+    #[inline(always)]
     pub(crate) fn check(&self) -> Result<(), Refusal> {
         if self.can_exist() {
             Ok(())
@@ -149,6 +151,14 @@ impl State {
             ended: u16::from_le_bytes([bytes[11], bytes[12]]),
         })
     }
+}
+
+/// Whether all registers are 0, looked at eight by eight.
+fn all_zero(registers: &[u8; REGISTERS]) -> bool {
+    let eights = registers.chunks_exact(8);
+    let rest = eights.remainder().iter().fold(0, |all, byte| all | byte);
+    let word = |eight: &[u8]| eight.try_into().map_or(0, u64::from_ne_bytes);
+    eights.fold(u64::from(rest), |all, eight| all | word(eight)) == 0
 }
 
 impl Default for State {
