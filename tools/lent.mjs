@@ -86,6 +86,8 @@ export function lend(path) {
       }
     },
     start: () => cartridge.write(TRIGGER, 3),
+    /** Lends another image. */
+    see: (image) => view("image").set(image),
   };
   return cartridge;
 }

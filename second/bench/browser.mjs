@@ -1,9 +1,14 @@
-// The browser module under node: captures in a second, its size and the memory it needs.
-// usage: node browser.mjs MODULE [--quick]
+// The browser module under node, timed. It is driven over standard input, as mgba.c is:
+//
+//   mode NUMBER    the registers of a mode
+//   image          and 16,384 bytes, the image from now on
+//   run COUNT      captures so many times, each with its start; answers the nanoseconds that took
+//
+// usage: node browser.mjs MODULE; with the word --sizes after it, prints how large module and memory are instead
+import { readSync, writeSync } from "node:fs";
 import { lend } from "../../tools/lent.mjs";
 
-const [path, effort] = process.argv.slice(2);
-const rounds = effort === "--quick" ? 5 : 21;
+const [path, word] = process.argv.slice(2);
 const cartridge = lend(path);
 
 function capture() {
@@ -11,28 +16,51 @@ function capture() {
   if (cartridge.tick(0xffffffff) < 32446) throw new Error("a capture ended early");
 }
 
-/** Milliseconds of one capture, the median of some rounds after one that warms up. */
-function timed() {
-  const times = [];
-  for (let round = 0; round <= rounds; round++) {
-    let runs = 0;
-    const start = performance.now();
-    while (performance.now() - start < 40) {
-      capture();
-      runs++;
-    }
-    if (round > 0) times.push((performance.now() - start) / runs);
-  }
-  return times.sort((a, b) => a - b)[times.length >> 1];
+/** Nanoseconds of so many captures. */
+function timed(count) {
+  const start = process.hrtime.bigint();
+  for (let run = 0; run < count; run++) capture();
+  return process.hrtime.bigint() - start;
 }
 
-const made = ["0", "2", "E", "F"].map((name) => {
-  cartridge.prepare(parseInt(name, 16));
-  return `mode ${name} ${(1000 / timed()).toFixed(0)}`;
-});
-console.log(`browser module under node, captures a second: ${made.join(", ")}`);
-const parts = Object.entries(cartridge.sizes).map(([name, size]) => `${name} ${size}`);
-console.log(
-  `browser module: ${cartridge.size} bytes; a cartridge takes ${cartridge.end} bytes of memory: ` +
-    `stack and constants ${cartridge.own}, ${parts.join(", ")}`,
-);
+/** The next bytes of standard input; fewer only at its end. */
+function take(count) {
+  const bytes = new Uint8Array(count);
+  let length = 0;
+  while (length < count) {
+    const read = readSync(0, bytes, length, count - length, null);
+    if (read === 0) break;
+    length += read;
+  }
+  return bytes.subarray(0, length);
+}
+
+/** The next line of standard input without its LF; none at its end. */
+function line() {
+  let text = "";
+  for (let [byte] = take(1); byte !== 10; [byte] = take(1)) {
+    if (byte === undefined) return undefined;
+    text += String.fromCharCode(byte);
+  }
+  return text;
+}
+
+function sizes() {
+  const parts = Object.entries(cartridge.sizes).map(([name, size]) => `${name} ${size}`);
+  console.log(
+    `browser module: ${cartridge.size} bytes; a cartridge takes ${cartridge.end} bytes of memory: ` +
+      `stack and constants ${cartridge.own}, ${parts.join(", ")}`,
+  );
+}
+
+if (word === "--sizes") {
+  sizes();
+} else {
+  for (let words = line(); words !== undefined; words = line()) {
+    const [kind, number] = words.split(" ");
+    if (kind === "mode") cartridge.prepare(Number(number));
+    else if (kind === "image") cartridge.see(take(16384));
+    else if (kind === "run") writeSync(1, `${timed(Number(number))}\n`);
+    else throw new Error(`'${words}' is none of its words`);
+  }
+}

@@ -1,7 +1,8 @@
 /* mGBA's own camera, timed: the store to its trigger register, which makes the whole picture at once, with no filter and no
  * timing. Compiled where libmgba can be had. It is driven over its standard input, so that its rounds fall between the others':
  *
- *   image          and 16,384 bytes: what the camera sees from now on. No answer
+ *   mode NUMBER    has no meaning here: there is no filter
+ *   image          and 16,384 bytes: what the camera sees from now on
  *   run COUNT      stores to the trigger so many times; answers the nanoseconds that took
  */
 #define _POSIX_C_SOURCE 199309L
@@ -120,6 +121,8 @@ int main(void)
     while (scanf("%5s", word) == 1) {
         if (strcmp(word, "image") == 0 && getchar() == '\n') {
             take_image();
+        } else if (strcmp(word, "mode") == 0 && scanf("%u", &count) == 1) {
+            continue;
         } else if (strcmp(word, "run") == 0 && scanf("%u", &count) == 1) {
             uint64_t start = now();
             for (unsigned run = 0; run < count; run++)
@@ -128,7 +131,7 @@ int main(void)
             fflush(stdout);
             look();
         } else {
-            fail("it is told something else than 'image' or 'run COUNT'");
+            fail("it is told something else than 'mode NUMBER', 'image' or 'run COUNT'");
         }
     }
     return 0;

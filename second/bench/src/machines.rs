@@ -1,7 +1,8 @@
-//! The controllers that are timed, all driven alike.
+//! The two controllers, driven alike: the archive's C functions over a record of bytes, and the second
+//! program's own functions over its record.
 
-use second::RECORD_BYTES;
-use std::hint::black_box;
+use gulxinett::bytes;
+use second::{State, FRAME_BYTES, RAM_BANK, RECORD_BYTES, ROM_BANK};
 
 /// A controller with its memory.
 pub trait Machine {
@@ -10,9 +11,11 @@ pub trait Machine {
     fn tick(&mut self, cycles: u32) -> u32;
     /// Chooses a level in low light, with dithering and no exposure named.
     fn choose(&mut self, level: u8);
+    /// Starts a capture and goes back to the state before.
+    fn start_again(&mut self);
 }
 
-/// What every machine is lent: one bank of ROM and RAM, and an image with some of every light.
+/// What every machine is lent: one bank of ROM and RAM, a store and an image.
 struct Memory {
     rom: Vec<u8>,
     ram: Vec<u8>,
@@ -21,73 +24,85 @@ struct Memory {
 }
 
 impl Memory {
-    fn new() -> Self {
-        let light = |place: usize| (place % 128 * 3 + place / 128 * 5 + place * place % 61) as u8;
+    fn new(image: &[u8]) -> Self {
         Memory {
-            rom: vec![0xFF; 16_384],
-            ram: vec![0xFF; 8_192],
-            store: vec![0; 16_384],
-            image: (0..16_384).map(light).collect(),
+            rom: vec![0xFF; ROM_BANK],
+            ram: vec![0xFF; RAM_BANK],
+            store: vec![0; FRAME_BYTES],
+            image: image.to_vec(),
         }
     }
 }
 
-/// The archive, through its bindings.
+/// The archive, as C calls it.
 pub struct Archive {
-    state: gulxinett::State,
+    state: [u8; RECORD_BYTES],
     memory: Memory,
 }
 
 impl Archive {
-    pub fn new() -> Self {
+    pub fn new(image: &[u8]) -> Self {
+        let mut state = [0; RECORD_BYTES];
+        accepted(bytes::reset(&mut state));
         Archive {
-            state: gulxinett::reset(),
-            memory: Memory::new(),
+            state,
+            memory: Memory::new(image),
         }
     }
+}
+
+/// The value of an answer, which is to be no refusal.
+fn accepted(answer: bytes::Answer) -> u32 {
+    answer.result().expect("nothing here is refused")
 }
 
 impl Machine for Archive {
     fn read(&mut self, address: u16) -> u8 {
         let Memory { rom, ram, .. } = &self.memory;
-        gulxinett::read(&self.state, rom, ram, address).expect("a read is not refused")
+        accepted(bytes::read(&self.state, rom, ram, address)) as u8
     }
 
     fn write(&mut self, address: u16, value: u8) {
         let Memory {
             ram, store, image, ..
         } = &mut self.memory;
-        gulxinett::write(&mut self.state, ram, store, image, address, value)
-            .expect("a write is not refused");
+        accepted(bytes::write(
+            &mut self.state,
+            ram,
+            store,
+            image,
+            address,
+            value,
+        ));
     }
 
     fn tick(&mut self, cycles: u32) -> u32 {
         let Memory { ram, store, .. } = &mut self.memory;
-        gulxinett::tick(&mut self.state, ram, store, cycles).expect("a tick is not refused")
+        accepted(bytes::tick(&mut self.state, ram, store, cycles))
     }
 
     fn choose(&mut self, level: u8) {
-        let choice = gulxinett::Choice {
-            light: 1,
-            level,
-            dithering: true,
-            exposure: None,
-        };
-        gulxinett::choose(&mut self.state, choice).expect("a choice is not refused");
+        accepted(bytes::choose(&mut self.state, 1, level, 0, 0x1_0000));
+    }
+
+    fn start_again(&mut self) {
+        let before = self.state;
+        self.write(super::TRIGGER, 3);
+        self.state = before;
     }
 }
 
-/// The second program's controller, called as it is.
+/// The second program's controller.
 pub struct Direct {
-    state: second::State,
+    state: State,
     memory: Memory,
 }
 
 impl Direct {
-    pub fn new() -> Self {
+    pub fn new(image: &[u8]) -> Self {
         Direct {
-            state: second::State::RESET,
-            memory: Memory::new(),
+            state: State::RESET,
+            memory: Memory::new(image),
         }
     }
 }
@@ -114,60 +129,10 @@ impl Machine for Direct {
     fn choose(&mut self, level: u8) {
         second::choose(&mut self.state, 1, level, false, None).expect("a choice is not refused");
     }
-}
 
-/// The second program's controller behind a record of bytes, as the archive's is.
-pub struct Bytes(Direct);
-
-impl Bytes {
-    pub fn new() -> Self {
-        Bytes(Direct::new())
-    }
-
-    /// Writes the record on one side of the call and reads it on the other, there and back.
-    fn over_bytes<T>(&mut self, call: impl FnOnce(&mut Direct) -> T) -> T {
-        let mut record = self.0.state.to_bytes();
-        let answer = self.beyond(&mut record, call, true);
-        self.0.state = decode(&record);
-        answer
-    }
-
-    #[inline(never)]
-    fn beyond<T>(
-        &mut self,
-        record: &mut [u8; RECORD_BYTES],
-        call: impl FnOnce(&mut Direct) -> T,
-        changes: bool,
-    ) -> T {
-        self.0.state = decode(black_box(record));
-        let answer = call(&mut self.0);
-        if changes {
-            *record = self.0.state.to_bytes();
-        }
-        answer
-    }
-}
-
-fn decode(record: &[u8; RECORD_BYTES]) -> second::State {
-    second::State::from_bytes(record).expect("a record comes back")
-}
-
-impl Machine for Bytes {
-    fn read(&mut self, address: u16) -> u8 {
-        // A read hands no record back.
-        let mut record = self.0.state.to_bytes();
-        self.beyond(&mut record, |direct| direct.read(address), false)
-    }
-
-    fn write(&mut self, address: u16, value: u8) {
-        self.over_bytes(|direct| direct.write(address, value));
-    }
-
-    fn tick(&mut self, cycles: u32) -> u32 {
-        self.over_bytes(|direct| direct.tick(cycles))
-    }
-
-    fn choose(&mut self, level: u8) {
-        self.over_bytes(|direct| direct.choose(level));
+    fn start_again(&mut self) {
+        let before = self.state;
+        self.write(super::TRIGGER, 3);
+        self.state = before;
     }
 }

@@ -1,139 +1,200 @@
-//! The proved archive beside the second program, in the same run.
+//! The proved archive beside the second program, in the same run; mGBA and the browser module too.
 //!
-//! `bench [--quick] PROVED SECOND`: PROVED and SECOND are the two script programs, each with its
-//! arguments in one word of the shell. The proved controller is called through its bindings, which
-//! hand the state over as bytes; "second" does the same, "direct" is called as it is.
+//! `bench [--quick] [--save FILE] [--compare FILE] [--mgba PROGRAM] [--browser PROGRAM] PROVED SECOND`:
+//! PROVED and SECOND are the two script programs, and every program is named with its arguments in one
+//! word of the shell. The proved controller is called by its C functions, which take the state as bytes;
+//! the second program's functions are called as they are.
 
 #![forbid(unsafe_code)]
 
 mod machines;
+mod outside;
 mod script;
+mod table;
 mod timing;
 mod written;
 
-use machines::{Archive, Bytes, Direct, Machine};
+use machines::{Archive, Direct, Machine};
+use outside::Outside;
 use std::hint::black_box;
 use std::io;
 use std::process::ExitCode;
-use timing::{sample, Effort, Spread};
+use table::Table;
+use timing::{here, race, Effort};
 
 /// What is done to a machine so many times.
 type Action = fn(&mut dyn Machine, u32);
 
-const TRIGGER: u16 = 0xA000;
-/// Captures a second the real cartridge makes at most: 1,048,576 cycles by 32,446.
-const REAL: f64 = 1_048_576.0 / 32_446.0;
+pub const TRIGGER: u16 = 0xA000;
+/// The modes with a filter of their own, and the plain one.
+const MODES: [u8; 7] = [0x0, 0x2, 0x3, 0xC, 0xD, 0xE, 0xF];
 
 fn main() -> ExitCode {
-    let (flags, words): (Vec<String>, Vec<String>) = std::env::args()
-        .skip(1)
-        .partition(|word| word.starts_with("--"));
-    let effort = match &flags[..] {
-        [] => Effort::FULL,
-        [flag] if flag == "--quick" => Effort::QUICK,
-        _ => return usage(),
+    let Some(words) = Words::new(std::env::args().skip(1)) else {
+        eprintln!(
+            "usage: bench [--quick] [--save FILE] [--compare FILE] [--mgba PROGRAM] \
+             [--browser PROGRAM] PROVED SECOND"
+        );
+        return ExitCode::from(2);
     };
-    let [proved, second] = &words[..] else {
-        return usage();
-    };
-    match (Bench { effort }).run(proved, second) {
+    match words.bench() {
         Ok(()) => ExitCode::SUCCESS,
         Err(error) => {
-            eprintln!("bench: the script: {error}");
+            eprintln!("bench: {error}");
             ExitCode::FAILURE
         }
     }
 }
 
-fn usage() -> ExitCode {
-    eprintln!("usage: bench [--quick] PROVED SECOND");
-    ExitCode::from(2)
+/// What the command asks for.
+struct Words {
+    effort: Effort,
+    save: Option<String>,
+    compare: Option<String>,
+    mgba: Option<String>,
+    browser: Option<String>,
+    programs: [String; 2],
 }
 
-/// How much is measured.
+impl Words {
+    fn new(mut words: impl Iterator<Item = String>) -> Option<Self> {
+        let mut effort = Effort::FULL;
+        let [mut save, mut compare, mut mgba, mut browser] = [const { None }; 4];
+        let mut programs = Vec::new();
+        while let Some(word) = words.next() {
+            match word.as_str() {
+                "--quick" => effort = Effort::QUICK,
+                "--save" => save = Some(words.next()?),
+                "--compare" => compare = Some(words.next()?),
+                "--mgba" => mgba = Some(words.next()?),
+                "--browser" => browser = Some(words.next()?),
+                word if word.starts_with("--") => return None,
+                _ => programs.push(word),
+            }
+        }
+        Some(Words {
+            effort,
+            save,
+            compare,
+            mgba,
+            browser,
+            programs: programs.try_into().ok()?,
+        })
+    }
+
+    /// Times everything, then saves and compares as asked.
+    fn bench(&self) -> io::Result<()> {
+        let started = |program: &Option<String>| program.as_deref().map(Outside::new).transpose();
+        let mut bench = Bench {
+            effort: self.effort,
+            table: Table::new(),
+            mgba: started(&self.mgba)?,
+            browser: started(&self.browser)?,
+        };
+        bench.captures()?;
+        bench.calls();
+        written::measure(self.effort, &mut bench.table);
+        let [proved, second] = &self.programs;
+        script::compare(proved, second, self.effort, &mut bench.table)?;
+        println!(
+            "best of {} rounds; of the ratios by rounds the quartiles",
+            self.effort.rounds
+        );
+        if let Some(path) = &self.compare {
+            bench.table.compare(path)?;
+        }
+        self.save
+            .as_ref()
+            .map_or(Ok(()), |path| bench.table.save(path))
+    }
+}
+
 struct Bench {
     effort: Effort,
+    table: Table,
+    mgba: Option<Outside>,
+    browser: Option<Outside>,
 }
 
 impl Bench {
-    /// Everything, with the two script programs.
-    fn run(&self, proved: &str, second: &str) -> io::Result<()> {
-        let rounds = self.effort.rounds;
-        println!("medians of {rounds} rounds, ratios with their quartiles");
-        timing::head();
-        let captures = self.measure_captures();
-        self.measure_small();
-        let written = written::measure(self.effort);
-        script::compare(proved, second, self.effort)?;
-        println!();
-        captures.iter().for_each(|line| println!("{line}"));
-        written.iter().for_each(|line| println!("{line}"));
-        println!("the real cartridge makes {REAL:.0} captures a second at most");
+    /// Whole captures with their starts, of two images, and the start alone.
+    fn captures(&mut self) -> io::Result<()> {
+        for (name, image) in [("smooth", smooth()), ("noisy", noisy())] {
+            for mode in MODES {
+                let outsiders = [&mut self.mgba, &mut self.browser].into_iter().flatten();
+                for outside in outsiders {
+                    outside.show(mode, &image)?;
+                }
+                self.measure(
+                    &format!("capture, mode {mode:X}, {name}"),
+                    mode,
+                    &image,
+                    capture,
+                    true,
+                );
+            }
+        }
+        let noise = noisy();
+        for mode in [0x0, 0x2, 0xE] {
+            let what = format!("capture by 4 cycles, mode {mode:X}");
+            self.measure(&what, mode, &noise, capture_by_fours, false);
+        }
+        self.measure(
+            "start alone",
+            0xE,
+            &noise,
+            |machine, runs| repeat(runs, |_| machine.start_again()),
+            false,
+        );
         Ok(())
     }
 
-    /// Whole captures in four modes; returns what each makes in a second.
-    fn measure_captures(&self) -> Vec<String> {
-        let mut lines = Vec::new();
-        for (name, mode) in [("0", 0x0), ("2", 0x2), ("E", 0xE), ("F", 0xF)] {
-            let [proved, second, _] =
-                self.measure(&format!("whole capture, mode {name}"), mode, capture);
-            lines.push(format!(
-                "captures a second on one core, mode {name}: proved {:.0}, second {:.0}",
-                1e9 / proved,
-                1e9 / second
-            ));
-        }
-        lines
-    }
-
-    fn measure_small(&self) {
-        self.measure("capture in ticks of 4, mode E", 0xE, capture_by_fours);
-        self.measure("idle tick of 1", 0, |machine, runs| {
+    /// Calls that do little.
+    fn calls(&mut self) {
+        let image = smooth();
+        let mut measure = |what: &str, action: Action| self.measure(what, 0, &image, action, false);
+        measure("idle tick of 1", |machine, runs| {
             repeat(runs, |_| machine.tick(black_box(1)))
         });
-        self.measure("idle tick of 2^32 - 1", 0, |machine, runs| {
+        measure("idle tick of 2^32 - 1", |machine, runs| {
             repeat(runs, |_| machine.tick(black_box(u32::MAX)))
         });
-        self.measure("choice of a level", 0, |machine, runs| {
-            repeat(runs, |run| machine.choose(run as u8 % 16))
-        });
-        self.measure("read of RAM", 0, |machine, runs| {
+        measure("read of RAM", |machine, runs| {
             machine.write(0x4000, 0);
             repeat(runs, |run| machine.read(0xA000 + run as u16 % 0x2000))
         });
-        self.measure("write to RAM", 0, |machine, runs| {
+        measure("write to RAM", |machine, runs| {
             machine.write(0x4000, 0);
             machine.write(0x0000, 0x0A);
             repeat(runs, |run| {
                 machine.write(0xA000 + run as u16 % 0x2000, run as u8)
             })
         });
+        measure("choice of a level", |machine, runs| {
+            repeat(runs, |run| machine.choose(run as u8 % 16))
+        });
     }
 
-    /// Times an action on all three machines, round by round; prints a row, returns the medians.
-    fn measure(&self, what: &str, mode: u8, action: Action) -> [f64; 3] {
-        let (mut archive, mut bytes, mut direct) = (Archive::new(), Bytes::new(), Direct::new());
-        let mut machines: [&mut dyn Machine; 3] = [&mut archive, &mut bytes, &mut direct];
-        let mut times = [const { Vec::new() }; 3];
-        machines
-            .iter_mut()
-            .for_each(|machine| prepare(*machine, mode));
-        for round in 0..self.effort.rounds + 1 {
-            for (machine, times) in machines.iter_mut().zip(&mut times) {
-                let taken = sample(self.effort.sample, 1, &mut |runs| action(*machine, runs));
-                // The first round only warms up.
-                if round > 0 {
-                    times.push(taken);
-                }
-            }
+    /// Times an action on both machines, and captures on those outside if they are asked too.
+    fn measure(&mut self, what: &str, mode: u8, image: &[u8], action: Action, outside: bool) {
+        let (mut archive, mut direct) = (Archive::new(image), Direct::new(image));
+        prepare(&mut archive, mode);
+        prepare(&mut direct, mode);
+        let mut all = vec![
+            here(|runs| action(&mut archive, runs)),
+            here(|runs| action(&mut direct, runs)),
+        ];
+        let mut asked = [false; 2];
+        if outside {
+            asked = [self.mgba.is_some(), self.browser.is_some()];
+            let outsiders = [&mut self.mgba, &mut self.browser].into_iter().flatten();
+            all.extend(outsiders.map(Outside::timed));
         }
-        let by = Spread::of_ratios(&times[0], &times[1]);
-        let by_direct = Spread::of_ratios(&times[0], &times[2]);
-        let medians = times.map(|times| Spread::of(times).median);
-        let [proved, second, direct] = medians;
-        timing::row(what, proved, second, by, Some((direct, by_direct)));
-        medians
+        let times = race(self.effort, &mut all);
+        drop(all);
+        let mut others = times[2..].iter();
+        let [mgba, browser] = asked.map(|asked| asked.then(|| others.next()).flatten());
+        self.table.add(what, &times[0], &times[1], mgba, browser);
     }
 }
 
@@ -142,6 +203,25 @@ fn repeat<T>(runs: u32, mut run: impl FnMut(u32) -> T) {
     for number in 0..runs {
         black_box(run(number));
     }
+}
+
+/// A slope from one corner to the other.
+fn smooth() -> Vec<u8> {
+    (0..second::FRAME_BYTES)
+        .map(|place| (place % 128 + place / 128) as u8)
+        .collect()
+}
+
+/// No pixel says anything of the next.
+fn noisy() -> Vec<u8> {
+    let mut state = 1_u64;
+    let mut light = || {
+        state = state
+            .wrapping_mul(6_364_136_223_846_793_005)
+            .wrapping_add(1_442_695_040_888_963_407);
+        (state >> 40) as u8
+    };
+    (0..second::FRAME_BYTES).map(|_| light()).collect()
 }
 
 /// Sets the registers of a mode, at 75 per cent and exposure 0100h, with a rising matrix.

@@ -1,6 +1,7 @@
 //! A long script through both programs.
 
-use crate::timing::{self, Effort, Spread};
+use crate::table::Table;
+use crate::timing::Effort;
 use std::fs::File;
 use std::io::{self, Write};
 use std::path::{Path, PathBuf};
@@ -17,27 +18,24 @@ impl Drop for Temporary {
     }
 }
 
+/// Lines of the script.
+const LINES: usize = 1_000_000;
+
 /// Times both programs on the same script, after seeing that they print the same.
-pub fn compare(proved: &str, second: &str, effort: Effort) -> io::Result<()> {
+pub fn compare(proved: &str, second: &str, effort: Effort, table: &mut Table) -> io::Result<()> {
     let path = std::env::temp_dir().join(format!("script-{}.txt", std::process::id()));
     let script = Temporary(path);
-    std::fs::write(&script.0, lines(effort.lines))?;
+    std::fs::write(&script.0, lines(LINES))?;
     if output(proved, &script.0)? != output(second, &script.0)? {
         return Err(io::Error::other("the two programs print different answers"));
     }
-    let (mut proved_times, mut second_times) = (Vec::new(), Vec::new());
+    let mut times = [const { Vec::new() }; 2];
     for _ in 0..effort.script_rounds {
-        proved_times.push(run(proved, &script.0)?);
-        second_times.push(run(second, &script.0)?);
+        for (program, times) in [proved, second].iter().zip(&mut times) {
+            times.push(run(program, &script.0)?);
+        }
     }
-    let by = Spread::of_ratios(&proved_times, &second_times);
-    timing::row(
-        &format!("script of {} lines", effort.lines),
-        Spread::of(proved_times).median,
-        Spread::of(second_times).median,
-        by,
-        None,
-    );
+    table.add("a million script lines", &times[0], &times[1], None, None);
     Ok(())
 }
 

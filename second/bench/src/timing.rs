@@ -1,4 +1,4 @@
-//! Timing in rounds, and the table.
+//! Timing in rounds.
 
 use std::time::{Duration, Instant};
 
@@ -7,114 +7,75 @@ use std::time::{Duration, Instant};
 pub struct Effort {
     pub rounds: usize,
     pub sample: Duration,
-    pub lines: usize,
     pub script_rounds: usize,
 }
 
 impl Effort {
     pub const FULL: Effort = Effort {
-        rounds: 21,
-        sample: Duration::from_millis(40),
-        lines: 1_000_000,
-        script_rounds: 7,
+        rounds: 81,
+        sample: Duration::from_millis(8),
+        script_rounds: 15,
     };
     pub const QUICK: Effort = Effort {
-        rounds: 5,
-        sample: Duration::from_millis(8),
-        lines: 1_000_000,
+        rounds: 15,
+        sample: Duration::from_millis(4),
         script_rounds: 3,
     };
 }
 
-/// Nanoseconds one run of an action takes, over as many as fill a sample.
-pub fn sample(least: Duration, runs: u32, action: &mut dyn FnMut(u32)) -> f64 {
-    let mut runs = runs;
-    loop {
+/// Does something so many times and gives the nanoseconds that took.
+pub type Timed<'a> = Box<dyn FnMut(u32) -> f64 + 'a>;
+
+/// Times an action of this process.
+pub fn here<'a>(mut action: impl FnMut(u32) + 'a) -> Timed<'a> {
+    Box::new(move |runs| {
         let start = Instant::now();
         action(runs);
-        let elapsed = start.elapsed();
-        if elapsed >= least {
-            return elapsed.as_secs_f64() * 1e9 / f64::from(runs);
+        start.elapsed().as_secs_f64() * 1e9
+    })
+}
+
+/// Nanoseconds that one run took in each round.
+pub type Times = Vec<f64>;
+
+/// Lets all take turns, round by round, so that what else the machine does falls on each alike.
+pub fn race(effort: Effort, all: &mut [Timed]) -> Vec<Times> {
+    let mut times = vec![Times::new(); all.len()];
+    let mut runs: Vec<u32> = all
+        .iter_mut()
+        .map(|timed| enough(effort.sample, timed))
+        .collect();
+    for _ in 0..effort.rounds {
+        for ((timed, times), runs) in all.iter_mut().zip(&mut times).zip(&mut runs) {
+            times.push(timed(*runs) / f64::from(*runs));
+        }
+    }
+    times
+}
+
+/// How many runs fill a sample, found by running, which also warms up.
+fn enough(sample: Duration, timed: &mut Timed) -> u32 {
+    let least = sample.as_secs_f64() * 1e9;
+    let mut runs = 1;
+    loop {
+        let taken = timed(runs);
+        if taken >= least {
+            return runs;
         }
         // Grows toward the sample without overshooting it by much.
-        let wanted = least.as_secs_f64() / elapsed.as_secs_f64().max(1e-7) * 1.2;
-        runs = (f64::from(runs) * wanted.clamp(1.2, 100.0)).ceil() as u32;
+        let wanted = (least / taken.max(100.0) * 1.1).clamp(1.1, 100.0);
+        runs = (f64::from(runs) * wanted).ceil() as u32;
     }
 }
 
-/// The median of some figures, and the quartiles around it, which a busy machine moves little.
-#[derive(Clone, Copy)]
-pub struct Spread {
-    pub lower: f64,
-    pub median: f64,
-    pub upper: f64,
+/// The least of some times: what is left where nothing else ran.
+pub fn best(times: &[f64]) -> f64 {
+    times.iter().copied().fold(f64::INFINITY, f64::min)
 }
 
-impl Spread {
-    pub fn of(mut figures: Vec<f64>) -> Spread {
-        figures.sort_by(f64::total_cmp);
-        Spread {
-            lower: figures[figures.len() / 4],
-            median: figures[figures.len() / 2],
-            upper: figures[figures.len() * 3 / 4],
-        }
-    }
-
-    /// The spread of quotients, round by round.
-    pub fn of_ratios(over: &[f64], under: &[f64]) -> Spread {
-        Spread::of(
-            over.iter()
-                .zip(under)
-                .map(|(over, under)| over / under)
-                .collect(),
-        )
-    }
-}
-
-/// A time with a unit that fits.
-fn time(nanoseconds: f64) -> String {
-    match nanoseconds {
-        n if n < 1e3 => format!("{n:.1} ns"),
-        n if n < 1e6 => format!("{:.2} us", n / 1e3),
-        n if n < 1e9 => format!("{:.2} ms", n / 1e6),
-        n => format!("{:.2} s", n / 1e9),
-    }
-}
-
-/// A ratio with its quartiles.
-fn ratio(spread: Spread) -> String {
-    format!(
-        "{:.2} ({:.2} to {:.2})",
-        spread.median, spread.lower, spread.upper
-    )
-}
-
-/// The table's head.
-pub fn head() {
-    line([
-        "",
-        "proved",
-        "second",
-        "proved / second",
-        "second, direct",
-        "proved / direct",
-    ]);
-}
-
-/// One line: the medians of both, their ratio, and the same of direct calls if there are any.
-pub fn row(what: &str, proved: f64, second: f64, by: Spread, direct: Option<(f64, Spread)>) {
-    let (direct, by_direct) =
-        direct.map_or_else(Default::default, |(direct, by)| (time(direct), ratio(by)));
-    line([
-        what,
-        &time(proved),
-        &time(second),
-        &ratio(by),
-        &direct,
-        &by_direct,
-    ]);
-}
-
-fn line([what, proved, second, by, direct, by_direct]: [&str; 6]) {
-    println!("{what:<30} {proved:>10} {second:>10} {by:>24} {direct:>14} {by_direct:>24}");
+/// The quartiles of the quotients of two, round by round: how quiet the machine was.
+pub fn quartiles(over: &[f64], under: &[f64]) -> [f64; 2] {
+    let mut ratios: Vec<f64> = over.iter().zip(under).map(|(o, u)| o / u).collect();
+    ratios.sort_by(f64::total_cmp);
+    [1, 3].map(|quarter| ratios[ratios.len() * quarter / 4])
 }

@@ -1,7 +1,8 @@
 //! What is written into lent memory: frames as script lines, a plate as a file and back, its shades, the
 //! readings before them, a photograph as an image, scripts salvaged.
 
-use crate::timing::{self, sample, Effort, Spread};
+use crate::table::Table;
+use crate::timing::{here, race, Effort};
 use gulxinett::bytes;
 use second::{
     Frame, State, FRAME_BYTES, GREY_FILE_BYTES, LONGEST_SCRIPT, PIXELS, RECORD_BYTES, REGISTERS,
@@ -17,65 +18,60 @@ type Writer = fn(&mut Lent, u32);
 /// What a writer is lent.
 struct Lent {
     row: [u8; ROW],
-    state: [u8; RECORD_BYTES],
-    held: [u8; RECORD_BYTES],
+    /// The records of no capture and of one held, as bytes and as the second program has them.
+    bytes: [[u8; RECORD_BYTES]; 2],
+    records: [State; 2],
     ram: Vec<u8>,
     room: [u8; GREY_FILE_BYTES],
     plate: Vec<u8>,
     photo: Vec<u8>,
     image: Vec<u8>,
+    /// Read as lit values.
+    store: Vec<u8>,
     scripts: [Script; 3],
     text: Vec<u8>,
     report: Vec<u8>,
 }
 
 /// Times both on a row of the image, a write, a plate out and in, its shades, readings, a photograph and the
-/// largest scripts salvaged; returns what each writes in a second.
-pub fn measure(effort: Effort) -> [String; 10] {
-    [
-        compare("row lines", effort, proved_row, second_row),
-        compare("write lines", effort, proved_write, second_write),
-        compare("plates as files", effort, proved_file, second_file),
-        compare("plates placed", effort, proved_place, second_place),
-        compare("plates as shades", effort, proved_shades, second_shades),
-        compare(
-            "readings as files",
-            effort,
-            proved_readings,
-            second_readings,
-        ),
-        compare("photographs read", effort, proved_photo, second_photo),
-        compare(
-            "salvages of short lines",
-            effort,
+/// largest scripts salvaged.
+pub fn measure(effort: Effort, table: &mut Table) {
+    let pairs: [(&str, Writer, Writer); 10] = [
+        ("a row's line", proved_row, second_row),
+        ("a write's line", proved_write, second_write),
+        ("export of a plate", proved_file, second_file),
+        ("placing of a plate", proved_place, second_place),
+        ("shades of a plate", proved_shades, second_shades),
+        ("readings", proved_readings, second_readings),
+        ("import of a photograph", proved_photo, second_photo),
+        (
+            "salvage of short lines",
             proved_salvage::<0>,
             second_salvage::<0>,
         ),
-        compare(
-            "salvages of rows",
-            effort,
-            proved_salvage::<1>,
-            second_salvage::<1>,
-        ),
-        compare(
-            "salvages of `00` lines",
-            effort,
+        ("salvage of rows", proved_salvage::<1>, second_salvage::<1>),
+        (
+            "salvage of `00` lines",
             proved_salvage::<2>,
             second_salvage::<2>,
         ),
-    ]
+    ];
+    for (what, proved, second) in pairs {
+        compare(what, effort, [proved, second], table);
+    }
 }
 
-fn compare(what: &str, effort: Effort, proved: Writer, second: Writer) -> String {
-    let mut lent = Lent {
+fn compare(what: &str, effort: Effort, writers: [Writer; 2], table: &mut Table) {
+    let lent = || Lent {
         row: std::array::from_fn(|place| place as u8 * 37),
-        state: State::RESET.to_bytes(),
-        held: held().to_bytes(),
+        bytes: [State::RESET, held()].map(|state| bytes_of(&state)),
+        records: [State::RESET, held()],
         ram: (0..8_192).map(|place| (place * place / 7) as u8).collect(),
         room: [0; GREY_FILE_BYTES],
         plate: plate(),
         photo: photograph(),
-        image: (0..FRAME_BYTES)
+        image: vec![0; FRAME_BYTES],
+        store: (0..FRAME_BYTES)
             .map(|place| (place * place / 13) as u8)
             .collect(),
         scripts: [
@@ -87,29 +83,17 @@ fn compare(what: &str, effort: Effort, proved: Writer, second: Writer) -> String
         text: vec![0; LONGEST_SCRIPT + 1],
         report: vec![0; LONGEST_SCRIPT],
     };
-    let mut times = [const { Vec::new() }; 2];
-    for round in 0..effort.rounds + 1 {
-        for (writer, times) in [proved, second].iter().zip(&mut times) {
-            let taken = sample(effort.sample, 1, &mut |runs| {
-                for number in 0..runs {
-                    writer(black_box(&mut lent), number);
-                    black_box(&lent);
-                }
-            });
-            // The first round only warms up.
-            if round > 0 {
-                times.push(taken);
+    let mut all = writers.map(|writer| {
+        let mut lent = lent();
+        here(move |runs| {
+            for number in 0..runs {
+                writer(black_box(&mut lent), number);
+                black_box(&lent);
             }
-        }
-    }
-    let by = Spread::of_ratios(&times[0], &times[1]);
-    let [proved, second] = times.map(|times| Spread::of(times).median);
-    timing::row(&format!("{what}, one"), proved, second, by, None);
-    format!(
-        "{what} a second: proved {:.0}, second {:.0}",
-        1e9 / proved,
-        1e9 / second
-    )
+        })
+    });
+    let times = race(effort, &mut all);
+    table.add(what, &times[0], &times[1], None, None);
 }
 
 fn proved_row(lent: &mut Lent, number: u32) {
@@ -156,15 +140,13 @@ fn plate() -> Vec<u8> {
 
 fn proved_place(lent: &mut Lent, number: u32) {
     lent.plate[0x100] = if number % 2 == 0 { 85 } else { 170 };
-    let answer = bytes::place(&lent.state, &mut lent.ram, &lent.plate);
+    let answer = bytes::place(&lent.bytes[0], &mut lent.ram, &lent.plate);
     assert_eq!(answer.0, 0);
 }
 
-/// The state is read from its bytes, as the archive reads it.
 fn second_place(lent: &mut Lent, number: u32) {
     lent.plate[0x100] = if number % 2 == 0 { 85 } else { 170 };
-    let state = State::from_bytes(&lent.state).expect("a record is lent");
-    let placed = second::place(&state, &mut lent.ram, &lent.plate);
+    let placed = second::place(&lent.records[0], &mut lent.ram, &lent.plate);
     assert_eq!(placed, Ok(()));
 }
 
@@ -180,7 +162,7 @@ fn second_shades(lent: &mut Lent, number: u32) {
     assert_eq!(read, Ok(()));
 }
 
-/// A capture held in mode E at 75 per cent and exposure 0100h, which reads its image.
+/// A capture held in mode E at 75 per cent.
 fn held() -> State {
     let mut taken = [0; REGISTERS];
     (taken[0], taken[1], taken[2], taken[4]) = (3, 0xE0, 1, 0x10);
@@ -192,17 +174,30 @@ fn held() -> State {
     }
 }
 
+/// The archive's bytes for such a record, which it writes itself: reset, registers and start.
+fn bytes_of(state: &State) -> [u8; RECORD_BYTES] {
+    let mut record = [0; RECORD_BYTES];
+    let (mut ram, image) = (vec![0; 8_192], [0; FRAME_BYTES]);
+    let mut store = image;
+    assert_eq!(bytes::reset(&mut record).0, 0);
+    let registers = (0xA000..).zip(state.registers).skip(1);
+    let start = [(0x4000, 0x10), (0xA000, state.registers[0])];
+    for (address, value) in [start[0]].into_iter().chain(registers).chain([start[1]]) {
+        let answer = bytes::write(&mut record, &mut ram, &mut store, &image, address, value);
+        assert_eq!(answer.0, 0);
+    }
+    record
+}
+
 fn proved_readings(lent: &mut Lent, number: u32) {
-    lent.image[0x1000] = number as u8;
-    let answer = bytes::readings(&lent.held, &lent.image, &mut lent.room);
+    lent.store[0x1000] = number as u8;
+    let answer = bytes::readings(&lent.bytes[1], &lent.store, &mut lent.room);
     assert_eq!(answer.0, GREY_FILE_BYTES as u64);
 }
 
-/// The state is read from its bytes, as the archive reads it.
 fn second_readings(lent: &mut Lent, number: u32) {
-    lent.image[0x1000] = number as u8;
-    let state = State::from_bytes(&lent.held).expect("a record is lent");
-    let written = second::export_readings(&state, &lent.image, &mut lent.room);
+    lent.store[0x1000] = number as u8;
+    let written = second::export_readings(&lent.records[1], &lent.store, &mut lent.room);
     assert_eq!(written, Ok(()));
 }
 
