@@ -67,6 +67,7 @@ pub fn read(state: &State, rom: &[u8], ram: &[u8], address: u16) -> Result<u8, R
 }
 
 /// Reads, where all that is lent is known to be allowed.
+#[inline(always)]
 pub(crate) fn read_judged(
     state: &State,
     rom: &[u8],
@@ -115,6 +116,7 @@ pub fn write(
 }
 
 /// Writes, where all that is lent is known to be allowed.
+#[inline(always)]
 pub(crate) fn write_judged(
     state: &mut State,
     ram: &mut [u8],
@@ -171,6 +173,7 @@ pub fn tick(state: &mut State, ram: &mut [u8], store: &[u8], cycles: u32) -> Res
 }
 
 /// Lets cycles pass, where all that is lent is known to be allowed.
+#[inline(always)]
 pub(crate) fn tick_judged(state: &mut State, ram: &mut [u8], store: &[u8], cycles: u32) -> u32 {
     if !state.running() {
         return 0;

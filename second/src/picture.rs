@@ -79,19 +79,8 @@ pub(crate) fn draw(
     let sensor = Sensor::new(store, registers);
     if pixels.len() < FEW {
         pixels.for_each(|pixel| sensor.draw_pixel(plate, pixel));
-        return;
-    }
-    let (first, left) = (pixels.start / PICTURE_WIDTH, pixels.start % PICTURE_WIDTH);
-    let (last, right) = (pixels.end / PICTURE_WIDTH, pixels.end % PICTURE_WIDTH);
-    if first == last {
-        return sensor.draw_part(plate, first, left..right);
-    }
-    if left > 0 {
-        sensor.draw_part(plate, first, left..PICTURE_WIDTH);
-    }
-    sensor.draw_rows(plate, first + usize::from(left > 0)..last);
-    if right > 0 {
-        sensor.draw_part(plate, last, 0..right);
+    } else {
+        sensor.draw_run(plate, pixels);
     }
 }
 
@@ -152,6 +141,7 @@ struct Sensor<'a> {
 }
 
 impl<'a> Sensor<'a> {
+    #[inline(always)]
     fn new(store: &'a [u8], registers: &'a [u8; REGISTERS]) -> Self {
         let mode = registers[1] >> 5 << 1 | registers[4] >> 7;
         let (edge, enhances) = match mode {
@@ -185,6 +175,23 @@ impl<'a> Sensor<'a> {
         }
     }
 
+    /// Draws a run of picture pixels by whole rows, and the parts of rows it begins and ends with.
+    #[inline(never)]
+    fn draw_run(&self, plate: &mut [u8], pixels: Range<usize>) {
+        let (first, left) = (pixels.start / PICTURE_WIDTH, pixels.start % PICTURE_WIDTH);
+        let (last, right) = (pixels.end / PICTURE_WIDTH, pixels.end % PICTURE_WIDTH);
+        if first == last {
+            return self.draw_part(plate, first, left..right);
+        }
+        if left > 0 {
+            self.draw_part(plate, first, left..PICTURE_WIDTH);
+        }
+        self.draw_rows(plate, first + usize::from(left > 0)..last);
+        if right > 0 {
+            self.draw_part(plate, last, 0..right);
+        }
+    }
+
     /// Draws whole picture rows.
     fn draw_rows(&self, plate: &mut [u8], rows: Range<usize>) {
         let thresholds: [_; 4] = std::array::from_fn(|y| Thresholds::new(self.matrix, y));
@@ -212,12 +219,15 @@ impl<'a> Sensor<'a> {
     }
 
     /// Draws one picture pixel.
+    #[inline(always)]
     fn draw_pixel(&self, plate: &mut [u8], pixel: usize) {
         let (x, y) = (pixel % PICTURE_WIDTH, pixel / PICTURE_WIDTH);
         let value = self.value(x, y + FIRST_ROW);
         let element = &self.matrix[3 * (4 * (y % 4) + x % 4)..][..3];
-        let [l, m, h] = [0, 1, 2].map(|level| lowered(element[level]));
-        let shade = shade(value, l, m, h).map(|bit| 0_u8.wrapping_sub(bit.into()));
+        let value = i16::from(raised(value));
+        let [black, dark, light] =
+            [0, 1, 2].map(|level| ((value - i16::from(element[level])) >> 15) as u8);
+        let shade = [black | (!dark & light), black | dark];
         put(plate, place(x, y), 0x80 >> (x % OCTET), shade);
     }
 
@@ -291,6 +301,7 @@ impl<'a> Sensor<'a> {
     }
 
     /// Steps 4 and 5 for one sensor pixel.
+    #[inline(always)]
     fn value(&self, x: usize, row: usize) -> i8 {
         let value = self.filtered(x, row);
         match self.one_d {
@@ -301,13 +312,14 @@ impl<'a> Sensor<'a> {
     }
 
     /// Step 4 for one sensor pixel; beyond the first and last column these are repeated.
+    #[inline(always)]
     fn filtered(&self, x: usize, row: usize) -> i8 {
-        let p = self.row(row)[x];
-        let across = || {
-            let row = self.row(row);
-            i16::from(row[x.saturating_sub(1)]) + i16::from(row[(x + 1).min(SENSOR_WIDTH - 1)])
-        };
-        let down = || i16::from(self.row(row - 1)[x]) + i16::from(self.row(row + 1)[x]);
+        let place = row * SENSOR_WIDTH + x;
+        let both = |a: usize, b: usize| i16::from(self.store[a]) + i16::from(self.store[b]);
+        let (west, east) = (x > 0, x < SENSOR_WIDTH - 1);
+        let across = || both(place - usize::from(west), place + usize::from(east));
+        let down = || both(place - SENSOR_WIDTH, place + SENSOR_WIDTH);
+        let p = self.store[place];
         match self.edge {
             Edge::Plain => lowered(p),
             Edge::Blank => 0,

@@ -246,7 +246,7 @@ fn fast_ticks_are_slow_ticks() {
 #[test]
 fn one_cycle_at_a_time() {
     let mut random = Random::new(2);
-    for mode in [0, 2, 0xE, 0xF] {
+    for mode in (0..16).chain([0, 2, 3]) {
         let mut taken = registers(&mut random, mode);
         (taken[2], taken[3]) = (0, 0x60);
         let frame = random.bytes(16_384);
@@ -256,7 +256,11 @@ fn one_cycle_at_a_time() {
         let mut fast_ram = vec![0x5A; 8_192];
         let mut slow_ram = fast_ram.clone();
         while slow.held {
-            let cycles = 1 + random.below(4) as u32 / 3;
+            // Up to a few pixels more than are drawn one by one.
+            let cycles = match mode % 2 {
+                0 => 1 + random.below(4) as u32 / 3,
+                _ => random.below(30) as u32,
+            };
             slow_tick(&mut slow, &mut slow_ram, Source::Image(&frame), cycles);
             tick(&mut fast, &mut fast_ram, &store, cycles).unwrap();
             assert_eq!(fast, slow);
