@@ -7,7 +7,8 @@ use borrow.Author.Tests.{ltb-true, eq-eqb}
 use Rattle.laws.specs.Pick.{pick}
 use Rattle.laws.proofs.Bools.{both-left, both-right}
 use Rattle.controller.specs.declared.Controller.{Controller}
-use Rattle.controller.specs.Calls.{readMeans, writeMeans, tickMeans}
+use Rattle.cartridge.specs.Calls.{readMeans, writeMeans}
+use Rattle.capture.specs.Calls.{tickMeans}
 use Rattle.desk.specs.Choice.{chooseMeans}
 use Rattle.placing.specs.Placing.{placeMeans}
 use Rattle.layout.specs.Layout.{encoded, isRecord, registersAt, decoded}

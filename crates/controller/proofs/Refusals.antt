@@ -2,31 +2,28 @@
 -- Assumes nothing.
 use mathlib.Core.Path.{_≡_, refl, sym, ap, _∙_}
 use mathlib.Core.Logic.{_↔_}
-use mathlib.Core.Bool.{Bool, true, false, not, _&&_, _||_, and-false}
+use mathlib.Core.Bool.{Bool, true, false, _&&_, _||_, and-false}
 use mathlib.Core.List.{List, [], _∷_}
 use Prim.Native.Nat.{ℕ, zero, suc, _<_, _≤_}
 use native.Mathlib.Omega.{arith}
 use lib.Dec.{eqb, leb, ltb}
 use lib.ListN.{length}
-use borrow.Author.Tests.{eq-eqb, ne-eqb, eqb-true, leb-true}
+use borrow.Author.Tests.{eq-eqb, ne-eqb, leb-true}
 use Rattle.laws.specs.Pick.{pick}
 use Rattle.laws.proofs.Order.{split}
 use Rattle.laws.proofs.Pick.{pick-ind, never}
 use Rattle.laws.proofs.Bools.{either, both-left, both-right, not-fails}
 use Rattle.sensor.specs.Taken.{settingOf}
-use Rattle.sensor.specs.Light.{byteAt, litOf}
+use Rattle.sensor.specs.Light.{litOf}
 use Rattle.tiles.specs.Picture.{pictureOf}
 use Rattle.controller.specs.declared.Controller.{Controller}
 use Rattle.controller.specs.declared.Refusal.{Refusal}
 use Rattle.controller.specs.declared.Verdict.{Verdict}
 use Rattle.controller.specs.declared.Verdict.the-variants as verdicts
-use Rattle.timing.specs.Lent.{romAllowed, ramAllowed, frameAllowed}
+use Rattle.timing.specs.Lent.{frameAllowed}
 use Rattle.controller.specs.State.{cantExist}
 use Rattle.controller.specs.Outcome.{Outcome, Inspection, numberOf, verdictNumber}
-use Rattle.controller.specs.Bus.{onCartridge, byteWritten}
-use Rattle.controller.specs.Capture.{ticks, from}
-use Rattle.controller.specs.Table.{Row, before, lowest, judged}
-use Rattle.controller.specs.Calls.{refusal, readRows, byteOf, readMeans, writeRows, wrote, writeMeans, tickRows, ticked, tickMeans}
+use Rattle.controller.specs.Table.{Row, lowest, judged}
 use Rattle.controller.specs.Picture.{Afresh, afresh, pictureRows, pictureMeans}
 use Rattle.matrix.specs.Matrix.{firstIn}
 use Rattle.controller.specs.Inspect.{named, noElement, inspectRows, inspectMeans}
@@ -163,23 +160,6 @@ abbrev pub inInspection : Inspection → ℕ
 inInspection i = i .number
 
 module _ (c : Controller) where
-  -- a read is refused by the lowest number of its rows, and only then
-  pub read-refuses : (rom ram : List ℕ) (a : ℕ) → Refuses (readRows c rom ram a) inOutcome (refusal c ram []) (readMeans c rom ram a) (byteOf c rom ram a)
-  unfolding readRows readMeans risingFrom
-  read-refuses rom ram a = refuses (readRows c rom ram a) inOutcome (refusal c ram []) (byteOf c rom ram a) (λ n. refl) refl refl
-
-  -- a write
-  pub write-refuses : (ram store image : List ℕ) (a v : ℕ) → Refuses (writeRows c ram store image a) inOutcome (refusal c ram store) (writeMeans c ram store image a v) (wrote (byteWritten c ram store image a v))
-  unfolding writeRows writeMeans risingFrom
-  write-refuses ram store image a v =
-      refuses (writeRows c ram store image a) inOutcome (refusal c ram store) (wrote (byteWritten c ram store image a v)) (λ n. refl) refl refl
-
-  -- a tick
-  pub tick-refuses : (ram store : List ℕ) (n : ℕ) → Refuses (tickRows c ram store) inOutcome (refusal c ram store) (tickMeans c ram store n) (ticked store (ticks (byteAt store) n (from c ram)))
-  unfolding tickRows tickMeans risingFrom
-  tick-refuses ram store n =
-      refuses (tickRows c ram store) inOutcome (refusal c ram store) (ticked store (ticks (byteAt store) n (from c ram))) (λ n. refl) refl refl
-
   -- an inspection
   pub inspect-refuses : Refuses (inspectRows c) inInspection noElement (inspectMeans c) (named (firstIn (c .registers) 0 16))
   unfolding inspectRows inspectMeans risingFrom
@@ -196,81 +176,10 @@ picture-refuses image regs out =
 
 -- ---- what is so where a call is not refused
 
-pub record ReadFits (c : Controller) (rom ram : List ℕ) (a : ℕ) : Type 0 where
-  pub exists : cantExist c ≡ false
-  pub rom-fits : romAllowed (length rom) ≡ true
-  pub ram-fits : ramAllowed (length ram) ≡ true
-  pub on-it : onCartridge a ≡ true
-
-pub read-fits : (c : Controller) (rom ram : List ℕ) (a : ℕ) → lowest (readRows c rom ram a) ≡ 0 → ReadFits c rom ram a
-unfolding readRows
-read-fits c rom ram a e =
-    let s = first-fails _ _ e in
-    let r = first-fails _ _ (s .1) in
-    let m = first-fails _ _ (r .1) in
-    let p = first-fails _ _ (m .1) in
-    record { exists = s .0; rom-fits = not-fails _ (r .0); ram-fits = not-fails _ (m .0); on-it = not-fails _ (p .0) }
-
-pub record WriteFits (c : Controller) (ram store image : List ℕ) (a : ℕ) : Type 0 where
-  pub exists : cantExist c ≡ false
-  pub ram-fits : ramAllowed (length ram) ≡ true
-  pub store-fits : frameAllowed (length store) ≡ true
-  pub image-fits : frameAllowed (length image) ≡ true
-  pub on-it : onCartridge a ≡ true
-
-pub write-fits : (c : Controller) (ram store image : List ℕ) (a : ℕ) → lowest (writeRows c ram store image a) ≡ 0 → WriteFits c ram store image a
-unfolding writeRows
-write-fits c ram store image a e =
-    let s = first-fails _ _ e in
-    let m = first-fails _ _ (s .1) in
-    let f = first-fails _ _ (m .1) in
-    let g = first-fails _ _ (f .1) in
-    let p = first-fails _ _ (g .1) in
-    record { exists = s .0; ram-fits = not-fails _ (m .0); store-fits = not-fails _ (f .0); image-fits = not-fails _ (g .0); on-it = not-fails _ (p .0) }
-
-pub record TickFits (c : Controller) (ram store : List ℕ) : Type 0 where
-  pub exists : cantExist c ≡ false
-  pub ram-fits : ramAllowed (length ram) ≡ true
-  pub store-fits : frameAllowed (length store) ≡ true
-
-pub tick-fits : (c : Controller) (ram store : List ℕ) → lowest (tickRows c ram store) ≡ 0 → TickFits c ram store
-unfolding tickRows
-tick-fits c ram store e =
-    let s = first-fails _ _ e in
-    let m = first-fails _ _ (s .1) in
-    let f = first-fails _ _ (m .1) in
-    record { exists = s .0; ram-fits = not-fails _ (m .0); store-fits = not-fails _ (f .0) }
-
 -- a state that can exist is not refused by 1
 module _ {O : Type 0} {rows : List Row} {number : O → ℕ} {refused : ℕ → O} {o done : O} (r : Refuses rows number refused o done) where
   pub not-one : rowHolds 1 rows ≡ false → number o ≡ 1 → ⊥
   not-one f e = never (r .exact 0 .0 e .holds) f
-
--- no number is given to a state that can exist just where the lengths and the address are allowed
-pub write-none : (c : Controller) (ram store image : List ℕ) (a : ℕ) → cantExist c ≡ false → eqb (lowest (writeRows c ram store image a)) 0 ≡ (ramAllowed (length ram) && ((frameAllowed (length store) && frameAllowed (length image)) && onCartridge a))
-unfolding writeRows lowest
-write-none c ram store image a e = rw e (by-tests (ramAllowed (length ram)) (frameAllowed (length store)) (frameAllowed (length image)) (onCartridge a))
-  where
-    by-tests : (p q r s : Bool) → eqb (pick (not p) 3 (pick (not q) 4 (pick (not r) 4 (pick (not s) 5 0)))) 0 ≡ (p && ((q && r) && s))
-    by-tests false q r s = refl
-    by-tests true false r s = refl
-    by-tests true true false s = refl
-    by-tests true true true false = refl
-    by-tests true true true true = refl
-
-pub tick-lent : (c : Controller) (ram store : List ℕ) → cantExist c ≡ false → eqb (lowest (tickRows c ram store)) 0 ≡ (ramAllowed (length ram) && frameAllowed (length store))
-unfolding tickRows lowest
-tick-lent c ram store e = rw e (by-tests (ramAllowed (length ram)) (frameAllowed (length store)))
-  where
-    by-tests : (p q : Bool) → eqb (pick (not p) 3 (pick (not q) 4 0)) 0 ≡ (p && q)
-    by-tests false q = refl
-    by-tests true false = refl
-    by-tests true true = refl
-
--- a tick of what fits: no number
-pub tick-none : (c : Controller) (ram store : List ℕ) → TickFits c ram store → lowest (tickRows c ram store) ≡ 0
-unfolding tickRows lowest
-tick-none c ram store f = simp (f .exists, f .ram-fits, f .store-fits)
 
 pub inspect-fits : (c : Controller) → lowest (inspectRows c) ≡ 0 → cantExist c ≡ false
 unfolding inspectRows

@@ -50,6 +50,10 @@ pub record Outcome : Type 0 where
 abbrev pub outcome : ℕ → ℕ → Controller → List ℕ → List ℕ → Outcome
 outcome n v c ram store = record { number = n; value = v; state = c; ram = ram; store = store }
 
+-- a refused call hands back the state given and changes no byte lent; its value is 0
+abbrev pub refusal : Controller → List ℕ → List ℕ → ℕ → Outcome
+refusal c ram store n = outcome n 0 c ram store
+
 -- A refused read returns byte 00
 abbrev pub readNumber : ReadAnswer → ℕ
 readNumber (reads.Byte b) = 0

@@ -1,8 +1,8 @@
 -- Refusal numbers: the table, row by row, and which rows each call has. Assumes nothing.
-use mathlib.Core.Bool.{Bool, true, not}
+use mathlib.Core.Bool.{Bool, not, _&&_, _||_}
 use mathlib.Core.List.{List, [], _∷_}
 use Prim.Native.Nat.{ℕ, zero, suc}
-use lib.Dec.{ltb}
+use lib.Dec.{leb, ltb}
 use Rattle.laws.specs.Pick.{pick}
 use Rattle.controller.specs.declared.Controller.{Controller}
 use Rattle.controller.specs.declared.Refusal.{Refusal}
@@ -10,7 +10,6 @@ use Rattle.controller.specs.declared.Refusal.the-variants.{State, Rom, R
 use Rattle.timing.specs.Lent.{romAllowed, ramAllowed, frameAllowed}
 use Rattle.controller.specs.State.{cantExist}
 use Rattle.controller.specs.Outcome.{numberOf}
-use Rattle.controller.specs.Bus.{onCartridge}
 
 -- a row of the table: a refusal, and whether what it is given for holds
 pub record Row : Type 0 where
@@ -35,6 +34,10 @@ noRam length = row Ram (not (ramAllowed length))
 -- 4: image or frame store is not 16,384 bytes
 abbrev pub noFrame : ℕ → Row
 noFrame length = row Frame (not (frameAllowed length))
+
+-- 5 is given when the address is outside 0000-7FFF and A000-BFFF
+unfoldable pub onCartridge : ℕ → Bool
+onCartridge a = ltb a 0x8000 || (leb 0xA000 a && ltb a 0xC000)
 
 -- 5: address is outside 0000-7FFF and A000-BFFF
 abbrev pub noPlace : ℕ → Row

@@ -5,10 +5,8 @@ use super::Verdict;
 use timing::ram_allowed;
 use timing::rom_allowed;
 ghost use mathlib.Core.Path.{_≡_};
-ghost use mathlib.Core.Bool.{Bool, not};
-ghost use lib.ListN.{length};
 ghost use Rattle.controller.specs.Outcome.{numberOf, verdictNumber};
-ghost use Rattle.controller.specs.Bus.{onCartridge};
+ghost use Rattle.controller.specs.Table.{onCartridge};
 ghost use Rattle.controller.specs.Table.{row, noState, noRom, noRam, noFrame, noPlace, noRoom, before};
 
 impl Refusal {
@@ -44,7 +42,7 @@ pub fn refused_if(holds: bool, why: Refusal, rest: Verdict) -> Verdict
 }
 
 // 2: ROM length is not allowed.
-pub(crate) fn no_rom(len: usize, rest: Verdict) -> Verdict
+pub fn no_rom(len: usize, rest: Verdict) -> Verdict
     ensures { λ r. ⌜ verdictNumber r ≡ before (noRom len) (verdictNumber rest) ⌝ }
 {
     refused_if(!rom_allowed(len), Refusal::Rom, rest)
@@ -78,7 +76,7 @@ fn on_cartridge(address: u16) -> bool
 }
 
 // 5: address is outside 0000-7FFF and A000-BFFF.
-pub(crate) fn no_place(address: u16, rest: Verdict) -> Verdict
+pub fn no_place(address: u16, rest: Verdict) -> Verdict
     ensures { λ r. ⌜ verdictNumber r ≡ before (noPlace address) (verdictNumber rest) ⌝ }
 {
     refused_if(!on_cartridge(address), Refusal::Address, rest)

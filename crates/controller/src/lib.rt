@@ -1,11 +1,9 @@
 // The controller of the camera cartridge: the state record, refusals and answers. The modules follow the paper's headings:
-// state (which records can exist), judge (refusals), bus (read and write), capture (ticks), picture (afresh and whole), inspect.
-mod bus;
-mod capture;
+// state (which records can exist), judge (refusals), picture (afresh and whole), inspect. Ticks are in capture, reads and writes in cartridge.
 mod inspect;
 pub mod judge;
 mod picture;
-mod state;
+pub mod state;
 
 use timing::Cycles;
 

@@ -4,11 +4,11 @@ use timing::Cycles;
 use timing::all_zero;
 use timing::total;
 ghost use mathlib.Core.Path.{_≡_};
-ghost use mathlib.Core.Bool.{Bool, true, false, not};
+ghost use mathlib.Core.Bool.{true, false, not};
 ghost use Rattle.controller.specs.State.{oneMore, resetState, leftOver, wrongCapture, canExist};
 
 // One more, wrapping from 65,535 to 0.
-pub(crate) fn one_more(n: u16) -> u16
+pub fn one_more(n: u16) -> u16
     ensures { λ r. ⌜ r ≡ oneMore n ⌝ }
 {
     std::num::wrapping_add_u16(n, 1)
@@ -29,6 +29,8 @@ impl Controller {
     pub const BASE: u32 = timing::BASE;
 
     pub const UNFILTERED: u32 = timing::UNFILTERED;
+    // Clocks before reading begins, at exposure 0.
+    pub const READING: u32 = timing::READING;
 
     // The reset state.
     pub fn reset() -> Controller

@@ -7,7 +7,7 @@ use Prim.Native.Nat.{ℕ}
 use Rattle.controller.specs.declared.Controller.{Controller}
 use Rattle.controller.specs.Outcome.{Outcome, outcome}
 use Rattle.controller.specs.Table.{lowest, judged}
-use Rattle.controller.specs.Calls.{refusal}
+use Rattle.controller.specs.Outcome.{refusal}
 use Rattle.desk.specs.declared.choice.Exposure.{Exposure}
 use Rattle.desk.specs.declared.choice.Exposure.the-variants.{Named, Unnamed}
 use Rattle.desk.specs.Choice.{valueOf, stored, timed, registersChosen, withRegisters, chooseRows, chooseMeans}

@@ -10,7 +10,7 @@ use Rattle.controller.specs.declared.Controller.{Controller}
 use Rattle.controller.specs.declared.WriteDone.{WriteDone}
 use Rattle.controller.specs.State.{cantExist}
 use Rattle.controller.specs.Outcome.{writeOutcome}
-use Rattle.controller.specs.Calls.{refusal}
+use Rattle.controller.specs.Outcome.{refusal}
 use Rattle.controller.specs.Table.{lowest}
 use Rattle.controller.proofs.Exists.{neither-left, neither-right}
 use Rattle.controller.proofs.Only.{only-write}

@@ -9,7 +9,7 @@ use Rattle.controller.specs.declared.Controller.{Controller}
 use Rattle.controller.specs.declared.Refusal.the-variants as refusals
 use Rattle.controller.specs.Outcome.{Outcome, outcome}
 use Rattle.controller.specs.Table.{Row, row, noState, lowest, judged}
-use Rattle.controller.specs.Calls.{refusal}
+use Rattle.controller.specs.Outcome.{refusal}
 use Rattle.desk.specs.declared.choice.Exposure.{Exposure}
 use Rattle.desk.specs.declared.choice.Exposure.the-variants as exposures
 use Rattle.desk.specs.Levels.{levels}

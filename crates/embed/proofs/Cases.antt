@@ -24,12 +24,16 @@ use Rattle.controller.specs.declared.TickDone.{TickDone}
 use Rattle.controller.specs.State.{resetState}
 use Rattle.tiles.specs.Tiles.{Bytes}
 use Rattle.controller.specs.Outcome.{Outcome, outcome, numberOf, readNumber, readValue, readOutcome, writeNumber, writeOutcome, tickNumber, tickValue, tickOutcome, inspection}
-use Rattle.controller.specs.Calls.{refusal, readRows, readMeans, writeMeans, tickMeans}
+use Rattle.controller.specs.Outcome.{refusal}
+use Rattle.cartridge.specs.Calls.{readRows, readMeans, writeMeans}
+use Rattle.capture.specs.Calls.{tickMeans}
 use Rattle.controller.specs.Inspect.{inspectMeans}
 use Rattle.controller.specs.Table.{Row, lowest}
 use Rattle.controller.specs.Picture.{afresh, pictureMeans}
 use Rattle.controller.proofs.Only.{some-number}
-use Rattle.controller.proofs.Refusals.{Refuses, inOutcome, read-refuses, write-refuses, tick-refuses, judged-ind}
+use Rattle.controller.proofs.Refusals.{Refuses, inOutcome, judged-ind}
+use Rattle.cartridge.proofs.Refusals.{read-refuses, write-refuses}
+use Rattle.capture.proofs.Refusals.{tick-refuses}
 use Rattle.lines.specs.declared.line.Frame.{Frame}
 use Rattle.lines.specs.declared.record.Recorded.{Recorded}
 use Rattle.lines.specs.declared.record.Recorded.the-variants as answers

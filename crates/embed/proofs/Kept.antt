@@ -6,8 +6,10 @@ use Prim.Native.Nat.{ℕ, zero, suc, _+_, _*_, _/_, _<_}
 use Rattle.tiles.specs.Tiles.{Bytes}
 use Rattle.controller.specs.Outcome.{Outcome}
 use Rattle.controller.specs.Table.{Row, lowest, judged}
-use Rattle.controller.specs.Calls.{refusal}
-use Rattle.controller.proofs.Refusals.{Refuses, inOutcome, write-refuses, tick-refuses}
+use Rattle.controller.specs.Outcome.{refusal}
+use Rattle.controller.proofs.Refusals.{Refuses, inOutcome}
+use Rattle.cartridge.proofs.Refusals.{write-refuses}
+use Rattle.capture.proofs.Refusals.{tick-refuses}
 use Rattle.laws.proofs.Bools.{either}
 use Rattle.desk.proofs.Choices.{choose-refuses}
 use Rattle.shades.specs.Shades.{Exported, exported}

@@ -17,15 +17,17 @@ use Rattle.timing.specs.Registers.{allZero}
 use Rattle.timing.specs.Timing.{nSet, totalOf}
 use Rattle.controller.specs.State.{cantExist, leftOver}
 use Rattle.tiles.specs.Tiles.{Bytes}
-use Rattle.controller.specs.Bus.{registersOn, withEnabled, withBank, withSelect, withRegister, controlWritten, isStart, captureWritten, registerWritten, Left, byteWritten}
+use Rattle.cartridge.specs.Bus.{registersOn, withEnabled, withBank, withSelect, withRegister, controlWritten, isStart, captureWritten, registerWritten, Left, byteWritten}
 use Rattle.sensor.specs.Light.{byteAt}
-use Rattle.controller.specs.Capture.{Ticking, begun, moved, ended, running, runs, cycle, ticks, from}
-use Rattle.controller.specs.Calls.{writeRows, tickRows, writeMeans, tickMeans}
+use Rattle.capture.specs.Capture.{Ticking, begun, moved, ended, running, runs, cycle, ticks, from}
+use Rattle.cartridge.specs.Calls.{writeRows, writeMeans}
+use Rattle.capture.specs.Calls.{tickRows, tickMeans}
 use Rattle.controller.specs.Table.{lowest}
 use Rattle.controller.proofs.Exists.{neither-left, exists-parts, before-total}
-use Rattle.controller.proofs.Refusals.{write-refuses, tick-refuses, tick-fits}
+use Rattle.cartridge.proofs.Refusals.{write-refuses}
+use Rattle.capture.proofs.Refusals.{tick-refuses, tick-fits}
 use Rattle.laws.proofs.Bools.{either}
-use Rattle.controller.proofs.TickSum.{Kept, ticks-keep, again, after, tick-sum}
+use Rattle.capture.proofs.TickSum.{Kept, ticks-keep, again, after, tick-sum}
 use Rattle.desk.specs.declared.choice.Exposure.{Exposure}
 use Rattle.desk.specs.Choice.{withRegisters, chooseRows, chooseMeans}
 use Rattle.desk.proofs.Choices.{choose-refuses}

@@ -12,14 +12,18 @@ use Rattle.controller.specs.declared.Controller.{Controller}
 use Rattle.controller.specs.State.{started}
 use Rattle.tiles.specs.Tiles.{Bytes}
 use Rattle.controller.specs.Outcome.{Outcome, Inspection}
-use Rattle.controller.specs.Bus.{registersOn, romRead, byteRead}
+use Rattle.cartridge.specs.Bus.{registersOn, romRead, byteRead}
 use Rattle.sensor.specs.Light.{byteAt}
-use Rattle.controller.specs.Capture.{Ticking, running, runs, cycle, ticks, from}
-use Rattle.controller.specs.Calls.{refusal, readMeans, writeMeans, tickMeans}
+use Rattle.capture.specs.Capture.{Ticking, running, runs, cycle, ticks, from}
+use Rattle.controller.specs.Outcome.{refusal}
+use Rattle.cartridge.specs.Calls.{readMeans, writeMeans}
+use Rattle.capture.specs.Calls.{tickMeans}
 use Rattle.matrix.specs.Matrix.{firstIn}
 use Rattle.controller.specs.Inspect.{named, inspectMeans, inspectRows}
 use Rattle.controller.specs.Table.{Row, lowest}
-use Rattle.controller.proofs.Refusals.{Refuses, inOutcome, read-refuses, write-refuses, tick-refuses, judged-ind}
+use Rattle.controller.proofs.Refusals.{Refuses, inOutcome, judged-ind}
+use Rattle.cartridge.proofs.Refusals.{read-refuses, write-refuses}
+use Rattle.capture.proofs.Refusals.{tick-refuses}
 use Rattle.lines.specs.declared.line.Frame.{Frame}
 use Rattle.lines.specs.Record.{recordMeans}
 use Rattle.lines.proofs.Recorded.{record-most}

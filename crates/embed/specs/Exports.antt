@@ -8,7 +8,8 @@ use Rattle.laws.specs.Pick.{pick}
 use Rattle.controller.specs.declared.Refusal.the-variants.{State}
 use Rattle.controller.specs.State.{resetState}
 use Rattle.controller.specs.Outcome.{Outcome, Inspection, numberOf}
-use Rattle.controller.specs.Calls.{readMeans, writeMeans, tickMeans}
+use Rattle.cartridge.specs.Calls.{readMeans, writeMeans}
+use Rattle.capture.specs.Calls.{tickMeans}
 use Rattle.controller.specs.Inspect.{inspectMeans}
 use Rattle.controller.specs.Picture.{Afresh, pictureMeans}
 use Rattle.lines.specs.declared.line.Frame.{Frame}

@@ -50,7 +50,7 @@ pub extern "C" fn gulxinett_read(state: &[u8], rom: &[u8], ram: &[u8], address: 
     if !is_record(state) {
         return refused(Refusal::State);
     }
-    let done = decode(state).read(rom, ram, address);
+    let done = cartridge::read(decode(state), rom, ram, address);
     let answer = done.answer;
     match answer {
         ReadAnswer::Byte(b) => pack(0, wide(b)),
@@ -73,7 +73,7 @@ pub extern "C" fn gulxinett_write(
     if !is_record(state) {
         return refused(Refusal::State);
     }
-    let done = decode(state).write(ram, store, image, address, value);
+    let done = cartridge::write(decode(state), ram, store, image, address, value);
     let answer = done.answer;
     match answer {
         WriteAnswer::Done => {
@@ -93,7 +93,7 @@ pub extern "C" fn gulxinett_tick(state: &mut [u8], ram: &mut [u8], store: &[u8],
     if !is_record(state) {
         return refused(Refusal::State);
     }
-    let done = decode(state).tick(ram, store, cycles);
+    let done = capture::tick(decode(state), ram, store, cycles);
     let answer = done.answer;
     match answer {
         TickAnswer::Ran(ran) => {

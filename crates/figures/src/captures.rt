@@ -108,7 +108,7 @@ fn put(
     address: u16,
     value: u8,
 ) -> Controller {
-    let done = c.write(ram, store, image, address, value);
+    let done = cartridge::write(c, ram, store, image, address, value);
     done.state
 }
 
@@ -145,7 +145,7 @@ fn capture(
     let selected = put(Controller::reset(), ram, store, image, 0x4000, 0x10);
     let ready = set_up(selected, ram, store, image, regs);
     let started = put(ready, ram, store, image, 0xA000, regs[0]);
-    let done = started.tick(ram, store, 2000000);
+    let done = capture::tick(started, ram, store, 2000000);
     let answer = done.answer;
     ran(answer)
 }

@@ -10,9 +10,10 @@ use Rattle.laws.specs.Pick.{pick}
 use Rattle.controller.specs.declared.Controller.{Controller}
 use Rattle.timing.specs.Lent.{ramAllowed, frameAllowed}
 use Rattle.controller.specs.State.{cantExist}
-use Rattle.controller.specs.Bus.{onCartridge, byteWritten, controlWritten, registerWritten, storeWritten, withRegister, withSelect}
+use Rattle.controller.specs.Table.{onCartridge}
+use Rattle.cartridge.specs.Bus.{byteWritten, controlWritten, registerWritten, storeWritten, withRegister, withSelect}
 use Rattle.controller.proofs.Exists.{exists-parts}
-use Rattle.controller.proofs.Written.{written-register}
+use Rattle.cartridge.proofs.Written.{written-register}
 use Rattle.desk.specs.declared.choice.Exposure.{Exposure}
 use Rattle.desk.specs.Choice.{stepsOf, valueOf, stored, registersChosen, withRegisters}
 use Rattle.desk.proofs.Registers.{stored-before}

@@ -13,11 +13,12 @@ use Rattle.sensor.specs.Light.{lightFrame}
 use Rattle.controller.specs.declared.Controller.{Controller}
 use Rattle.timing.specs.Lent.{ramAllowed, frameAllowed}
 use Rattle.controller.specs.State.{cantExist, resetState, oneMore}
-use Rattle.controller.specs.Capture.{begun}
-use Rattle.controller.specs.Bus.{left, onCartridge, byteWritten, controlWritten, registerWritten, captureWritten, withBank, withRegister, withEnabled, withSelect, isStart, registersOn}
+use Rattle.capture.specs.Capture.{begun}
+use Rattle.cartridge.specs.Bus.{left, byteWritten, controlWritten, registerWritten, captureWritten, withBank, withRegister, withEnabled, withSelect, isStart, registersOn}
+use Rattle.controller.specs.Table.{onCartridge}
 use Rattle.controller.specs.Outcome.{Outcome}
 use Rattle.controller.specs.Table.{lowest}
-use Rattle.controller.specs.Calls.{readRows, readMeans}
+use Rattle.cartridge.specs.Calls.{readRows, readMeans}
 use Rattle.controller.proofs.Refusals.{judged-ind}
 use Rattle.desk.specs.declared.choice.Exposure.{Exposure}
 use Rattle.desk.specs.Choice.{beyond, withRegisters}

@@ -12,8 +12,8 @@ use Rattle.controller.specs.declared.Controller.{Controller}
 use Rattle.timing.specs.Registers.{zeroTo}
 use Rattle.timing.specs.Timing.{totalOf}
 use Rattle.controller.specs.State.{started, leftOver, wrongCapture, cantExist, resetState}
-use Rattle.controller.specs.Capture.{begun}
-use Rattle.controller.specs.Bus.{withEnabled, withBank, withSelect, withRegister, isStart}
+use Rattle.capture.specs.Capture.{begun}
+use Rattle.cartridge.specs.Bus.{withEnabled, withBank, withSelect, withRegister, isStart}
 use Rattle.controller.proofs.Exists.{Exists, exists-parts, exists-whole}
 use Rattle.laws.proofs.Bools.{both-left}
 

@@ -18,18 +18,22 @@ use Rattle.laws.proofs.Pick.{pick-ind}
 use Rattle.controller.specs.declared.Controller.{Controller}
 use Rattle.timing.specs.Timing.{totalOf}
 use Rattle.controller.specs.State.{started, cantExist, resetState, oneMore}
-use Rattle.controller.specs.Capture.{begun, moved, ended, Ticking, ticks, from}
-use Rattle.controller.specs.Capture as capture
-use Rattle.controller.specs.Bus.{Left, left, onCartridge, byteWritten, controlWritten, registerWritten, storeWritten, captureWritten, ramWritten, ramWritable, withBank, withRegister, withEnabled, withSelect, isStart, registersOn}
+use Rattle.capture.specs.Capture.{begun, moved, ended, Ticking, ticks, from}
+use Rattle.capture.specs.Capture as capture
+use Rattle.cartridge.specs.Bus.{Left, left, byteWritten, controlWritten, registerWritten, storeWritten, captureWritten, ramWritten, ramWritable, withBank, withRegister, withEnabled, withSelect, isStart, registersOn}
+use Rattle.controller.specs.Table.{onCartridge}
 use Rattle.timing.specs.Lent.{romAllowed, ramAllowed, frameAllowed}
 use Rattle.controller.specs.Outcome.{Outcome}
 use Rattle.controller.specs.Table.{lowest}
-use Rattle.controller.specs.Calls.{readRows, readMeans, writeRows, writeMeans, tickRows, tickMeans}
-use Rattle.controller.proofs.Refusals.{write-refuses, tick-refuses, judged-ind, judged-pick, write-none, tick-lent}
+use Rattle.cartridge.specs.Calls.{readRows, readMeans, writeRows, writeMeans}
+use Rattle.capture.specs.Calls.{tickRows, tickMeans}
+use Rattle.cartridge.proofs.Refusals.{write-refuses, write-none}
+use Rattle.capture.proofs.Refusals.{tick-refuses, tick-lent}
+use Rattle.controller.proofs.Refusals.{judged-ind, judged-pick}
 use Rattle.timing.proofs.Lent.{frame-lent, ram-lent, ram-inside}
 use Rattle.laws.proofs.Bools.{both-left, both-right}
 use Rattle.controller.proofs.Exists.{before-total}
-use Rattle.controller.proofs.Ticks.{idle, going, over}
+use Rattle.capture.proofs.Ticks.{idle, going, over}
 use Rattle.tiles.proofs.Pixels.{pixels-length}
 use Rattle.tiles.proofs.Run.{pixels-none}
 use Rattle.tiles.specs.Bulk.{pixels}

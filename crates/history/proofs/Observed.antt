@@ -12,7 +12,7 @@ use Rattle.laws.proofs.Bools.{both-left, both-right}
 use Rattle.timing.specs.Timing.{totalOf}
 use Rattle.tiles.specs.Tiles.{areaOf, Bytes}
 use Rattle.controller.specs.State.{started}
-use Rattle.controller.specs.Bus.{registersOn, ramPlace}
+use Rattle.cartridge.specs.Bus.{registersOn, ramPlace}
 use Rattle.history.specs.History.{Call, reset, read, write, tick, inspect, choose, place, World, fresh, leaves, after}
 use Rattle.history.specs.Track.{Track, atReset, writeAccepted, cyclesOf, toRegisters, starts, ends, imageIn, registersAt, toRam, placeOf, inArea, lands, byteIn, next, follow, told, seen}
 use Rattle.history.specs.Since.{isReset, goesOn, Held, Whole, landed, lastIn, bytesIn}

@@ -10,7 +10,7 @@ use lib.Pow.{pow-mono}
 use Rattle.laws.specs.Pick.{pick}
 use Rattle.laws.specs.Bits.{bitOf}
 use Rattle.laws.proofs.BitLaws.{bits-below}
-use Rattle.controller.proofs.TickSum.{ap-pick}
+use Rattle.capture.proofs.TickSum.{ap-pick}
 use Rattle.history.specs.History.{Call, World, fresh, leaves, after}
 use Rattle.history.specs.Track.{Track, atReset, inArea, lands, byteIn, next}
 use Rattle.history.specs.Since.{lastIn}

@@ -15,10 +15,11 @@ use Rattle.controller.specs.declared.Controller.{Controller}
 use Rattle.timing.specs.Lent.{ramAllowed, frameAllowed}
 use Rattle.controller.specs.State.{started, cantExist}
 use Rattle.controller.specs.Table.{lowest}
-use Rattle.controller.specs.Bus.{onCartridge, byteWritten, controlWritten, ramWritten, withEnabled, withSelect}
+use Rattle.controller.specs.Table.{onCartridge}
+use Rattle.cartridge.specs.Bus.{byteWritten, controlWritten, ramWritten, withEnabled, withSelect}
 use Rattle.controller.proofs.Exists.{exists-parts}
 use Rattle.timing.proofs.Lent.{ram-lent}
-use Rattle.controller.proofs.Written.{written-ram}
+use Rattle.cartridge.proofs.Written.{written-ram}
 use Rattle.tiles.specs.Tiles.{areaOf}
 use Rattle.desk.specs.Choice.{stored}
 use Rattle.desk.proofs.Registers.{stored-length, stored-before, stored-at}

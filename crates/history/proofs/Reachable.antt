@@ -12,16 +12,20 @@ use Rattle.laws.proofs.Pick.{pick-ind}
 use Rattle.controller.specs.declared.Controller.{Controller}
 use Rattle.timing.specs.Timing.{totalOf}
 use Rattle.controller.specs.State.{cantExist, resetState}
-use Rattle.controller.specs.Capture.{begun, moved, ended, Ticking, cycle, runs, running, ticks, from}
-use Rattle.controller.specs.Bus.{Left, onCartridge, byteWritten, controlWritten, registerWritten, captureWritten, withBank, withRegister, withEnabled, withSelect, isStart, registersOn}
+use Rattle.capture.specs.Capture.{begun, moved, ended, Ticking, cycle, runs, running, ticks, from}
+use Rattle.cartridge.specs.Bus.{Left, byteWritten, controlWritten, registerWritten, captureWritten, withBank, withRegister, withEnabled, withSelect, isStart, registersOn}
+use Rattle.controller.specs.Table.{onCartridge}
 use Rattle.sensor.specs.Light.{byteAt}
 use Rattle.timing.specs.Lent.{romAllowed, ramAllowed, frameAllowed}
 use Rattle.controller.specs.Outcome.{Outcome}
 use Rattle.controller.specs.Table.{lowest}
-use Rattle.controller.specs.Calls.{readRows, readMeans, writeRows, writeMeans, tickRows, tickMeans}
+use Rattle.cartridge.specs.Calls.{readRows, readMeans, writeRows, writeMeans}
+use Rattle.capture.specs.Calls.{tickRows, tickMeans}
 use Rattle.controller.specs.Inspect.{inspectRows}
-use Rattle.controller.proofs.Refusals.{rowHolds, read-refuses, write-refuses, tick-refuses, inspect-refuses, judged-ind, not-one}
-use Rattle.controller.proofs.TickSum.{ticks-keep}
+use Rattle.controller.proofs.Refusals.{rowHolds, inspect-refuses, judged-ind, not-one}
+use Rattle.cartridge.proofs.Refusals.{read-refuses, write-refuses}
+use Rattle.capture.proofs.Refusals.{tick-refuses}
+use Rattle.capture.proofs.TickSum.{ticks-keep}
 use Rattle.desk.specs.declared.choice.Exposure.{Exposure}
 use Rattle.desk.specs.Choice.{registersChosen, withRegisters, chooseRows, chooseMeans}
 use Rattle.desk.proofs.Choices.{choose-refuses}

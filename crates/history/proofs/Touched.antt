@@ -28,7 +28,7 @@ use Rattle.tiles.specs.Picture.{pictureShade}
 use Rattle.tiles.specs.Bulk.{pixels}
 use Rattle.tiles.proofs.Run.{pixels-none}
 use Rattle.tiles.proofs.Pixels.{pixels-outside, pixels-passed, pixels-others}
-use Rattle.controller.proofs.TickSum.{ap-pick}
+use Rattle.capture.proofs.TickSum.{ap-pick}
 use Rattle.history.specs.History.{Call, reset, read, write, tick, inspect, choose, place, World, fresh, leaves, after}
 use Rattle.history.specs.Track.{Track, atReset, tickAccepted, runsIn, inArea, lands, byteIn, next, litBy}
 use Rattle.history.specs.Since.{cycleOf}

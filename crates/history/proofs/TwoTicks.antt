@@ -4,7 +4,7 @@ use mathlib.Core.List.{List, _∷_}
 use Prim.Native.Nat.{ℕ, _+_}
 use native.Mathlib.Nat.{add-assoc}
 use Rattle.controller.specs.Outcome.{Outcome}
-use Rattle.controller.proofs.TickSum.{tick-sum}
+use Rattle.capture.proofs.TickSum.{tick-sum}
 use Rattle.history.specs.History.{Call, tick, World, leftBy, leaves, answers, countIn, refusalIn, after, counted}
 
 module _ (w : World) (a b : ℕ) where

@@ -15,7 +15,7 @@ use Rattle.timing.specs.Lent.{banksAllowed}
 use Rattle.timing.specs.Timing.{readingFrom, firstRow}
 use Rattle.tiles.specs.Tiles.{shadeIn, areaOf, Bytes}
 use Rattle.tiles.specs.Picture.{pictureShade, pictureOf}
-use Rattle.controller.specs.Bus.{onCartridge}
+use Rattle.controller.specs.Table.{onCartridge}
 use Rattle.plates.specs.Grey.{plateOf}
 use Rattle.placing.proofs.RoundTrip.{out-in, plate-is}
 use Rattle.history.specs.History.{Call, reset, read, write, tick, inspect, place, fresh, after, counted}

@@ -12,7 +12,7 @@ use Rattle.sensor.specs.Taken.{exposureOf}
 use Rattle.timing.specs.Lent.{banksAllowed}
 use Rattle.timing.specs.Timing.{readingFrom, firstRow}
 use Rattle.tiles.specs.Picture.{pictureShade}
-use Rattle.controller.specs.Bus.{onCartridge}
+use Rattle.controller.specs.Table.{onCartridge}
 use Rattle.placing.specs.Placing.{pixelsOf, placedByte, placedArea}
 use Rattle.placing.proofs.RoundTrip.{out-in, plate-is}
 use Rattle.history.specs.History.{Call, write, tick, place, fresh, after}

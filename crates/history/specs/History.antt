@@ -5,7 +5,8 @@ use Prim.Native.Nat.{ℕ, _+_}
 use Rattle.controller.specs.declared.Controller.{Controller}
 use Rattle.controller.specs.State.{resetState}
 use Rattle.controller.specs.Outcome.{Outcome, Inspection}
-use Rattle.controller.specs.Calls.{readMeans, writeMeans, tickMeans}
+use Rattle.cartridge.specs.Calls.{readMeans, writeMeans}
+use Rattle.capture.specs.Calls.{tickMeans}
 use Rattle.controller.specs.Inspect.{inspectMeans}
 use Rattle.desk.specs.declared.choice.Exposure.{Exposure}
 use Rattle.desk.specs.Choice.{chooseMeans}

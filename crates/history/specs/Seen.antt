@@ -10,7 +10,7 @@ use Rattle.timing.specs.Timing.{totalOf}
 use Rattle.tiles.specs.Tiles.{areaOf, Bytes}
 use Rattle.tiles.specs.Picture.{pictureOf}
 use Rattle.controller.specs.declared.Controller.{Controller}
-use Rattle.controller.specs.Bus.{registersOn, ramWritable, ramPlace}
+use Rattle.cartridge.specs.Bus.{registersOn, ramWritable, ramPlace}
 use Rattle.history.specs.History.{Call, reset, read, write, tick, inspect, choose, place, World, fresh, leaves, answers, refusalIn, after, counted}
 use Rattle.history.specs.Track.{inArea, byteIn}
 use Rattle.history.specs.Since.{isReset, bytesIn}

@@ -11,7 +11,7 @@ use Rattle.sensor.specs.Taken.{settingOf}
 use Rattle.sensor.specs.Light.{lightFrame, litOf}
 use Rattle.timing.specs.Lent.{ramAllowed, frameAllowed}
 use Rattle.controller.specs.State.{started, noRegisters}
-use Rattle.controller.specs.Bus.{onCartridge}
+use Rattle.controller.specs.Table.{onCartridge}
 use Rattle.desk.specs.Choice.{beyond, registersChosen}
 use Rattle.placing.specs.Placing.{isPlate, pixelsOf, placedByte}
 use Rattle.history.specs.History.{Call, reset, read, write, tick, inspect, choose, place, World}

@@ -17,7 +17,7 @@ use Rattle.controller.specs.Outcome.{writeNumber, outcome}
 use Rattle.controller.specs.Picture.{afresh}
 use Rattle.controller.specs.State.{cantExist}
 use Rattle.timing.specs.Lent.{ramAllowed}
-use Rattle.controller.specs.Calls.{refusal}
+use Rattle.controller.specs.Outcome.{refusal}
 use Rattle.controller.specs.Table.{row, noRam, lowest}
 use Rattle.controller.proofs.Afresh.{only-picture}
 use Rattle.controller.proofs.Refusals.{Refuses, inOutcome, refuses, judged-pick, risingFrom, first-fails}

@@ -23,9 +23,9 @@ use Rattle.timing.specs.Timing.{totalOf}
 use Rattle.timing.proofs.Lit.{written-lit}
 use Rattle.controller.specs.declared.Controller.{Controller}
 use Rattle.controller.specs.State.{started}
-use Rattle.controller.specs.Capture.{Ticking, begun, moved, ended, running, runs, cycle, ticks, from}
-use Rattle.controller.specs.Bus.{isStart, captureWritten, storeWritten}
-use Rattle.controller.proofs.Ticks.{rest}
+use Rattle.capture.specs.Capture.{Ticking, begun, moved, ended, running, runs, cycle, ticks, from}
+use Rattle.cartridge.specs.Bus.{isStart, captureWritten, storeWritten}
+use Rattle.capture.proofs.Ticks.{rest}
 use Rattle.plates.specs.Grey.{header}
 use Rattle.readings.specs.Readings.{reading, readingsOf}
 

@@ -15,9 +15,11 @@ use Rattle.controller.specs.declared.Refusal.the-variants as refusals
 use Rattle.controller.specs.State.{resetState}
 use Rattle.controller.specs.Outcome.{outcome, numberOf}
 use Rattle.controller.specs.Table.{Row, row, lowest, judged}
-use Rattle.controller.specs.Calls.{refusal}
+use Rattle.controller.specs.Outcome.{refusal}
 use Rattle.controller.specs.Picture.{afresh}
-use Rattle.controller.proofs.Refusals.{Refuses, refuses, risingFrom, inOutcome, inAfresh, read-refuses, write-refuses, tick-refuses}
+use Rattle.controller.proofs.Refusals.{Refuses, refuses, risingFrom, inOutcome, inAfresh}
+use Rattle.cartridge.proofs.Refusals.{read-refuses, write-refuses}
+use Rattle.capture.proofs.Refusals.{tick-refuses}
 use Rattle.lines.specs.declared.line.Frame.{Frame}
 use Rattle.lines.specs.declared.line.Frame.the-variants.{Reset, Read, Write, Tick, Row as RowFrame, Malformed}
 use Rattle.lines.specs.Hex.{printed}

@@ -17,12 +17,16 @@ use Rattle.controller.specs.declared.Refusal.the-variants.{State}
 use Rattle.controller.specs.State.{resetState}
 use Rattle.controller.specs.Outcome.{Outcome}
 use Rattle.controller.specs.Table.{Row, row, noState, lowest}
-use Rattle.controller.specs.Bus.{byteWritten}
-use Rattle.controller.specs.Capture.{ticks, from}
-use Rattle.controller.specs.Calls.{refusal, readRows, byteOf, writeRows, wrote, tickRows, ticked}
+use Rattle.cartridge.specs.Bus.{byteWritten}
+use Rattle.capture.specs.Capture.{ticks, from}
+use Rattle.controller.specs.Outcome.{refusal}
+use Rattle.cartridge.specs.Calls.{readRows, byteOf, writeRows, wrote}
+use Rattle.capture.specs.Calls.{tickRows, ticked}
 use Rattle.controller.specs.Inspect.{named, inspectRows}
 use Rattle.controller.specs.Picture.{pictureRows}
-use Rattle.controller.proofs.Refusals.{Refuses, Given, refuses, inOutcome, risingFrom, given, gives, read-refuses, write-refuses, tick-refuses, inspect-refuses, picture-refuses}
+use Rattle.controller.proofs.Refusals.{Refuses, Given, refuses, inOutcome, risingFrom, given, gives, inspect-refuses, picture-refuses}
+use Rattle.cartridge.proofs.Refusals.{read-refuses, write-refuses}
+use Rattle.capture.proofs.Refusals.{tick-refuses}
 use Rattle.lines.specs.declared.line.Frame.{Frame}
 use Rattle.lines.specs.Record.{lineOf, cantSay, recordRows, filled as line-filled}
 use Rattle.lines.proofs.Recorded.{record-refuses}

@@ -5,9 +5,10 @@ use Prim.Native.Nat.{ℕ}
 use lib.ListN.{length}
 use Rattle.controller.specs.declared.Refusal.the-variants as refusals
 use Rattle.controller.specs.Table.{Row, row, noFrame}
-use Rattle.controller.specs.Bus.{byteWritten}
-use Rattle.controller.specs.Capture.{ticks, from}
-use Rattle.controller.specs.Calls.{readRows, byteOf, writeRows, wrote, tickRows, ticked}
+use Rattle.cartridge.specs.Bus.{byteWritten}
+use Rattle.capture.specs.Capture.{ticks, from}
+use Rattle.cartridge.specs.Calls.{readRows, byteOf, writeRows, wrote}
+use Rattle.capture.specs.Calls.{tickRows, ticked}
 use Rattle.lines.specs.declared.line.Frame.{Frame}
 use Rattle.lines.specs.declared.line.Frame.the-variants.{Reset, Read, Write, Tick, Row as RowFrame, Malformed}
 use Rattle.lines.specs.Line.{numberAt}

@@ -13,8 +13,11 @@ use Rattle.laws.proofs.Pick.{pick-ind, never}
 use Rattle.timing.specs.Lent.{frameAllowed}
 use Rattle.controller.specs.Outcome.{Outcome, numberOf}
 use Rattle.controller.specs.Table.{Row, lowest}
-use Rattle.controller.specs.Calls.{readRows, writeRows, tickRows}
-use Rattle.controller.proofs.Refusals.{Refuses, inOutcome, read-refuses, write-refuses, tick-refuses}
+use Rattle.cartridge.specs.Calls.{readRows, writeRows}
+use Rattle.capture.specs.Calls.{tickRows}
+use Rattle.controller.proofs.Refusals.{Refuses, inOutcome}
+use Rattle.cartridge.proofs.Refusals.{read-refuses, write-refuses}
+use Rattle.capture.proofs.Refusals.{tick-refuses}
 use Rattle.lines.specs.declared.line.Frame.{Frame}
 use Rattle.lines.specs.declared.line.Frame.the-variants.{Reset, Read, Write, Tick, Row as RowFrame, Malformed}
 use Rattle.lines.specs.Hex.{hexText, printed}

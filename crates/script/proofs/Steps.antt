@@ -10,7 +10,8 @@ use Rattle.controller.specs.declared.Controller.{Controller}
 use Rattle.controller.specs.declared.Refusal.the-variants as refusals
 use Rattle.controller.specs.State.{resetState}
 use Rattle.controller.specs.Outcome.{numberOf}
-use Rattle.controller.specs.Calls.{readMeans, writeMeans, tickMeans}
+use Rattle.cartridge.specs.Calls.{readMeans, writeMeans}
+use Rattle.capture.specs.Calls.{tickMeans}
 use Rattle.lines.specs.declared.line.Frame.{Frame}
 use Rattle.lines.specs.declared.line.Frame.the-variants.{Reset, Read, Write, Tick, Row, Malformed}
 use Rattle.script.specs.declared.session.Obeyed.{Obeyed}

@@ -9,7 +9,8 @@ use Rattle.controller.specs.declared.Refusal.the-variants as refusals
 use Rattle.timing.specs.Lent.{frameAllowed}
 use Rattle.controller.specs.State.{resetState}
 use Rattle.controller.specs.Outcome.{Outcome, numberOf}
-use Rattle.controller.specs.Calls.{readMeans, writeMeans, tickMeans}
+use Rattle.cartridge.specs.Calls.{readMeans, writeMeans}
+use Rattle.capture.specs.Calls.{tickMeans}
 use Rattle.lines.specs.declared.line.Frame.{Frame}
 use Rattle.lines.specs.declared.line.Frame.the-variants.{Reset, Read, Write, Tick, Row, Malformed}
 use Rattle.lines.specs.Line.{numberAt, frameOf}

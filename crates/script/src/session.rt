@@ -15,7 +15,8 @@ ghost use mathlib.Core.List.{[]};
 ghost use Prim.Native.Nat.{_+_, _*_, _≤_, _<_};
 ghost use lib.ListN.{length};
 ghost use Rattle.controller.specs.Outcome.{numberOf, readNumber, readValue, writeNumber, tickNumber, tickValue};
-ghost use Rattle.controller.specs.Calls.{readMeans, writeMeans, tickMeans};
+ghost use Rattle.cartridge.specs.Calls.{readMeans, writeMeans};
+ghost use Rattle.capture.specs.Calls.{tickMeans};
 ghost use Rattle.lines.specs.Line.{hexPart, frameOf};
 ghost use Rattle.script.specs.Answer.{answerText, textOf};
 ghost use Rattle.script.specs.Session.{world, step, rowTaken, rowImage, rowText, stepOf};
@@ -103,7 +104,7 @@ fn take_row(image: &mut [u8], line: &[u8], y: usize)
 fn do_read(state: Controller, rom: &[u8], ram: &[u8], address: u16) -> Obeyed
     ensures { λ r. ⌜ Obeys 2 (readMeans state (now (rom .entry)) (now (ram .entry)) address) r (now (ram .entry)) [] ⌝ }
 {
-    let done = state.read(rom, ram, address);
+    let done = cartridge::read(state, rom, ram, address);
     let next = done.state;
     let answer = done.answer;
     Obeyed {
@@ -123,7 +124,7 @@ fn do_write(
 ) -> Obeyed
     ensures { λ r. ⌜ Obeys 0 (writeMeans state (now (ram .entry)) (now (store .entry)) (now (image .entry)) address value) r (now (ram .exit)) (now (store .exit)) ⌝ }
 {
-    let done = state.write(ram, store, image, address, value);
+    let done = cartridge::write(state, ram, store, image, address, value);
     let next = done.state;
     let answer = done.answer;
     Obeyed {
@@ -136,7 +137,7 @@ fn do_write(
 fn do_tick(state: Controller, ram: &mut [u8], store: &[u8], n: u32) -> Obeyed
     ensures { λ r. ⌜ Obeys 8 (tickMeans state (now (ram .entry)) (now (store .entry)) n) r (now (ram .exit)) (now (store .entry)) ⌝ }
 {
-    let done = state.tick(ram, store, n);
+    let done = capture::tick(state, ram, store, n);
     let next = done.state;
     let answer = done.answer;
     Obeyed {

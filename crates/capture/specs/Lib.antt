@@ -1,0 +1,3 @@
+-- Captures, cycle by cycle, and what a tick means.
+pub mod Capture
+pub mod Calls

@@ -1,0 +1,3 @@
+-- Laws of the bus.
+pub mod Refusals
+pub mod Written

@@ -1,0 +1,3 @@
+-- The bus: what a read and a write mean.
+pub mod Bus
+pub mod Calls
