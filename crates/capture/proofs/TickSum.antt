@@ -9,7 +9,7 @@ use lib.ListN.{length}
 use Rattle.laws.specs.Pick.{pick}
 use Rattle.laws.specs.Iter.{iter, iter-add, iter-maps, iter-keeps}
 use Rattle.laws.proofs.Order.{split}
-use Rattle.sensor.specs.Light.{byteAt}
+use Rattle.lighting.specs.Light.{byteAt}
 use Rattle.controller.specs.declared.Controller.{Controller}
 use Rattle.timing.specs.Timing.{totalOf, putPixel, writtenAt}
 use Rattle.controller.specs.State.{cantExist, started}

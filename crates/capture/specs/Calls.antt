@@ -2,7 +2,7 @@
 use mathlib.Core.List.{List, [], _∷_}
 use Prim.Native.Nat.{ℕ}
 use lib.ListN.{length}
-use Rattle.sensor.specs.Light.{byteAt}
+use Rattle.lighting.specs.Light.{byteAt}
 use Rattle.controller.specs.declared.Controller.{Controller}
 use Rattle.controller.specs.Outcome.{Outcome, outcome, refusal}
 use Rattle.capture.specs.Capture.{Ticking, ticks, from}

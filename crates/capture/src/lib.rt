@@ -14,7 +14,7 @@ ghost use mathlib.Core.Bool.{Bool, true, false};
 ghost use mathlib.Core.List.{List};
 ghost use Prim.Native.Nat.{ℕ, _+_, _*_, _/_, _%_, _<_, _≤_};
 ghost use lib.ListN.{length, getD};
-ghost use Rattle.sensor.specs.Light.{byteAt};
+ghost use Rattle.lighting.specs.Light.{byteAt};
 ghost use Rattle.timing.specs.Timing.{totalOf};
 ghost use Rattle.capture.specs.Capture.{moved, ended, running, ticks, from};
 ghost use Rattle.controller.specs.Outcome.{verdictNumber, outcome, tickOutcome};

@@ -6,8 +6,8 @@ use lib.Dec.{eqb, ltb}
 use lib.ListN.{length, getD, set}
 use Rattle.laws.specs.Pick.{pick}
 use Rattle.laws.specs.Bits.{isSet}
-use Rattle.sensor.specs.Taken.{settingOf}
-use Rattle.sensor.specs.Light.{lightFrame}
+use Rattle.lighting.specs.Taken.{settingOf}
+use Rattle.lighting.specs.Light.{lightFrame}
 use Rattle.controller.specs.declared.Controller.{Controller}
 use Rattle.controller.specs.State.{started}
 use Rattle.capture.specs.Capture.{begun}

@@ -13,8 +13,8 @@ use Rattle.laws.specs.Pick.{pick}
 use Rattle.laws.proofs.Order.{split}
 use Rattle.laws.proofs.Pick.{pick-ind, never}
 use Rattle.laws.proofs.Bools.{either, both-left, both-right, not-fails}
-use Rattle.sensor.specs.Taken.{settingOf}
-use Rattle.sensor.specs.Light.{litOf}
+use Rattle.lighting.specs.Taken.{settingOf}
+use Rattle.lighting.specs.Light.{litOf}
 use Rattle.tiles.specs.Picture.{pictureOf}
 use Rattle.controller.specs.declared.Controller.{Controller}
 use Rattle.controller.specs.declared.Refusal.{Refusal}

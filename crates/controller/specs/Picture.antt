@@ -2,8 +2,8 @@
 use mathlib.Core.List.{List, [], _∷_}
 use Prim.Native.Nat.{ℕ}
 use lib.ListN.{length}
-use Rattle.sensor.specs.Taken.{settingOf}
-use Rattle.sensor.specs.Light.{litOf}
+use Rattle.lighting.specs.Taken.{settingOf}
+use Rattle.lighting.specs.Light.{litOf}
 use Rattle.tiles.specs.Picture.{pictureOf}
 use Rattle.controller.specs.Table.{Row, noFrame, lowest, judged}
 

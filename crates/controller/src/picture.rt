@@ -3,7 +3,7 @@ use super::Controller;
 use super::Verdict;
 use super::WriteAnswer;
 use super::judge::no_frame;
-use sensor::Setting;
+use lighting::Setting;
 ghost use mathlib.Core.Path.{_≡_};
 ghost use Rattle.controller.specs.Outcome.{writeNumber};
 ghost use Rattle.controller.specs.Picture.{afresh, pictureMeans};
@@ -19,7 +19,7 @@ impl Controller {
         }
         let set = Setting::of(&regs);
         let mut lit = [0u8; 16384];
-        sensor::light_frame(image, set, &mut lit);
+        lighting::light_frame(image, set, &mut lit);
         tiles::fill(&lit, set, &regs, out);
         WriteAnswer::Done
     }

@@ -11,14 +11,14 @@ use lib.Seq.{length-take-le}
 use borrow.Author.Tests.{eqb-true, not-false}
 use Rattle.laws.specs.Iter.{iter-keeps}
 use Rattle.laws.proofs.Pick.{pick-ind}
-use Rattle.sensor.specs.Taken.{exposureOf}
+use Rattle.lighting.specs.Taken.{exposureOf}
 use Rattle.controller.specs.declared.Controller.{Controller}
 use Rattle.timing.specs.Registers.{allZero}
 use Rattle.timing.specs.Timing.{nSet, totalOf}
 use Rattle.controller.specs.State.{cantExist, leftOver}
 use Rattle.tiles.specs.Tiles.{Bytes}
 use Rattle.cartridge.specs.Bus.{registersOn, withEnabled, withBank, withSelect, withRegister, controlWritten, isStart, captureWritten, registerWritten, Left, byteWritten}
-use Rattle.sensor.specs.Light.{byteAt}
+use Rattle.lighting.specs.Light.{byteAt}
 use Rattle.capture.specs.Capture.{Ticking, begun, moved, ended, running, runs, cycle, ticks, from}
 use Rattle.cartridge.specs.Calls.{writeRows, writeMeans}
 use Rattle.capture.specs.Calls.{tickRows, tickMeans}

@@ -13,7 +13,7 @@ use Rattle.controller.specs.State.{started}
 use Rattle.tiles.specs.Tiles.{Bytes}
 use Rattle.controller.specs.Outcome.{Outcome, Inspection}
 use Rattle.cartridge.specs.Bus.{registersOn, romRead, byteRead}
-use Rattle.sensor.specs.Light.{byteAt}
+use Rattle.lighting.specs.Light.{byteAt}
 use Rattle.capture.specs.Capture.{Ticking, running, runs, cycle, ticks, from}
 use Rattle.controller.specs.Outcome.{refusal}
 use Rattle.cartridge.specs.Calls.{readMeans, writeMeans}

@@ -6,7 +6,7 @@ use super::print::number;
 use super::print::text;
 use controller::Controller;
 use controller::TickAnswer;
-use sensor::Setting;
+use lighting::Setting;
 ghost use Prim.Native.Nat.{_<_};
 
 // The matrix of document 001, 2.2.6, set 1 (high light), default contrast, behind six registers that are 0.

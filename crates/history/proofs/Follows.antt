@@ -11,8 +11,8 @@ use lib.Seq.{getD-set-same, getD-set-other}
 use borrow.Author.Tests.{ne-eqb, eq-eqb, eqb-true, eqb-false}
 use Rattle.laws.specs.Pick.{pick}
 use Rattle.laws.proofs.Order.{split}
-use Rattle.sensor.specs.Taken.{exposureOf, settingOf}
-use Rattle.sensor.specs.Light.{lightFrame, byteAt}
+use Rattle.lighting.specs.Taken.{exposureOf, settingOf}
+use Rattle.lighting.specs.Light.{lightFrame, byteAt}
 use Rattle.sensor.proofs.Lit.{light-length}
 use Rattle.laws.proofs.Pick.{pick-ind}
 use Rattle.controller.specs.declared.Controller.{Controller}

@@ -4,8 +4,8 @@ use mathlib.Core.Bool.{true, false}
 use mathlib.Core.List.{List, [], _∷_, _++_}
 use Prim.Native.Nat.{ℕ}
 use lib.ListN.{length}
-use Rattle.sensor.specs.Taken.{settingOf}
-use Rattle.sensor.specs.Light.{lightFrame}
+use Rattle.lighting.specs.Taken.{settingOf}
+use Rattle.lighting.specs.Light.{lightFrame}
 use Rattle.history.specs.History.{Call, fresh, after, counted}
 use Rattle.history.specs.Track.{Track, atReset, ends, starts, imageIn, registersAt, next, follow, told}
 use Rattle.history.specs.Since.{isReset, goesOn, Held, Whole, Begun, Own}

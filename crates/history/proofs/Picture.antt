@@ -11,7 +11,7 @@ use lib.Seq.{getD-take, getD-drop, ext-getD}
 use borrow.Author.Tests.{ltb-true, lt-ltb, le-leb, not-true}
 use Rattle.laws.specs.Bits.{bitOf}
 use Rattle.laws.proofs.Pick.{pick-ind}
-use Rattle.sensor.specs.Light.{byteAt}
+use Rattle.lighting.specs.Light.{byteAt}
 use Rattle.timing.specs.Lent.{ramAllowed}
 use Rattle.tiles.specs.Tiles.{shadeIn, areaOf, Bytes}
 use Rattle.tiles.specs.Picture.{pictureShade, pictureOf}

@@ -15,7 +15,7 @@ use Rattle.controller.specs.State.{cantExist, resetState}
 use Rattle.capture.specs.Capture.{begun, moved, ended, Ticking, cycle, runs, running, ticks, from}
 use Rattle.cartridge.specs.Bus.{Left, byteWritten, controlWritten, registerWritten, captureWritten, withBank, withRegister, withEnabled, withSelect, isStart, registersOn}
 use Rattle.controller.specs.Table.{onCartridge}
-use Rattle.sensor.specs.Light.{byteAt}
+use Rattle.lighting.specs.Light.{byteAt}
 use Rattle.timing.specs.Lent.{romAllowed, ramAllowed, frameAllowed}
 use Rattle.controller.specs.Outcome.{Outcome}
 use Rattle.controller.specs.Table.{lowest}

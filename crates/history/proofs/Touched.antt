@@ -12,8 +12,8 @@ use Rattle.laws.specs.Pick.{pick}
 use Rattle.laws.specs.Bits.{bitOf}
 use Rattle.laws.proofs.Order.{split}
 use Rattle.laws.proofs.Bools.{both-left, both-right}
-use Rattle.sensor.specs.Taken.{settingOf}
-use Rattle.sensor.specs.Light.{lightFrame, byteAt, litOf}
+use Rattle.lighting.specs.Taken.{settingOf}
+use Rattle.lighting.specs.Light.{lightFrame, byteAt, litOf}
 use Rattle.sensor.specs.Shade.{shadeAt}
 use Rattle.sensor.proofs.Rows.{rows}
 use Rattle.sensor.proofs.Lit.{light-alike}

@@ -10,7 +10,7 @@ use lib.ListN.{length, getD, replicate, length-replicate, getD-replicate, List·
 use borrow.Author.Tests.{le-leb, lt-leb, leb-true, ne-eqb}
 use Rattle.laws.proofs.Bools.{both-right}
 use Rattle.laws.proofs.Order.{split}
-use Rattle.sensor.specs.Taken.{exposureOf}
+use Rattle.lighting.specs.Taken.{exposureOf}
 use Rattle.timing.specs.Lent.{banksAllowed}
 use Rattle.timing.specs.Timing.{readingFrom, firstRow}
 use Rattle.tiles.specs.Tiles.{shadeIn, areaOf, Bytes}

@@ -8,7 +8,7 @@ use lib.ListN.{length, getD, drop, length-replicate, getD-replicate}
 use lib.Seq.{getD-take, getD-drop}
 use Rattle.laws.specs.Bits.{bitOf}
 use Rattle.laws.proofs.Packed.{listed-at}
-use Rattle.sensor.specs.Taken.{exposureOf}
+use Rattle.lighting.specs.Taken.{exposureOf}
 use Rattle.timing.specs.Lent.{banksAllowed}
 use Rattle.timing.specs.Timing.{readingFrom, firstRow}
 use Rattle.tiles.specs.Picture.{pictureShade}

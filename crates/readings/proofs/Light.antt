@@ -12,8 +12,8 @@ use Rattle.laws.specs.Iter.{iter, iter-keeps}
 use Rattle.laws.proofs.Pick.{pick-ind, never}
 use Rattle.laws.proofs.Bools.{both-left}
 use Rattle.laws.proofs.Packed.{listed-ext}
-use Rattle.sensor.specs.Taken.{settingOf}
-use Rattle.sensor.specs.Light.{lightFrame, byteAt, litOf}
+use Rattle.lighting.specs.Taken.{settingOf}
+use Rattle.lighting.specs.Light.{lightFrame, byteAt, litOf}
 use Rattle.sensor.proofs.Rows.{Alike, rows}
 use Rattle.sensor.proofs.Lit.{light-alike}
 use Rattle.tiles.specs.Picture.{pictureOf}

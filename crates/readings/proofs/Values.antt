@@ -10,7 +10,7 @@ use borrow.Author.Tests.{ltb-false}
 use Rattle.laws.specs.Lists.{listed}
 use Rattle.laws.proofs.Bools.{not-fails}
 use Rattle.laws.proofs.Packed.{listed-at}
-use Rattle.sensor.specs.Light.{byteAt}
+use Rattle.lighting.specs.Light.{byteAt}
 use Rattle.sensor.specs.Shade.{shadeOf, shadeAt}
 use Rattle.tiles.specs.Tiles.{shadeIn, areaOf, Bytes}
 use Rattle.tiles.specs.Picture.{pictureOf}

@@ -6,9 +6,10 @@ use Prim.Native.Nat.{ℕ, _+_, _-_, _≤_, _<_, min}
 use native.Mathlib.Omega.{arith}
 use lib.IntN.{ℤ, pos, natAbs, _+ℤ_}
 use Rattle.laws.specs.Pick.{pick}
-use Rattle.sensor.specs.declared.Setting.{Setting}
-use Rattle.sensor.specs.Taken.{settingOf}
-use Rattle.sensor.specs.Edge.{edgeOf, threeOf, nineOf, step4}
+use Rattle.lighting.specs.declared.Setting.{Setting}
+use Rattle.lighting.specs.Taken.{settingOf}
+use Rattle.filters.specs.Edge.{edgeOf}
+use Rattle.sensor.specs.Nine.{threeOf, nineOf, step4}
 use Rattle.sensor.specs.Row.{passes, rowFilter, step5}
 use Rattle.sensor.specs.Shade.{valueAt, shadeOf, readingAt, shadeAt}
 

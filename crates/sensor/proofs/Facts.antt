@@ -1,88 +1,25 @@
 -- The ranges that the definitions keep. Assumes nothing.
-use mathlib.Core.Bool.{Bool, true, false, _&&_}
-use mathlib.Core.List.{List, [], _∷_}
-use mathlib.Core.Path.{_≡_, refl, ap, _∙_}
-use Prim.Native.Nat.{ℕ, zero, suc, _+_, _/_, _%_, _≤_, _<_}
+use mathlib.Core.Bool.{Bool, true, false}
+use mathlib.Core.List.{List}
+use mathlib.Core.Path.{_≡_}
+use Prim.Native.Nat.{ℕ, zero, suc, _+_, _≤_, _<_}
 use native.Mathlib.Omega.{arith}
-use borrow.Author.Tests.{ltb-false, ne-eqb}
 use lib.IntN.{ℤ, pos, negsuc, natAbs, _+ℤ_, _-ℤ_}
 use lib.ListN.{getD}
-use lib.Signed.{mag, ltZ, nonNeg, pos-natAbs}
-use mir.Syntax.{w32}
-use mir.Val.{SFits, toZ, ofZ}
-use mir.Facts.{toZ-ofZ, and-yes}
-use lib.Dec.{T, eqb, ltb, ltb→lt, lit<, lit≤}
+use lib.Signed.{mag, nonNeg, pos-natAbs}
+use lib.Dec.{T, ltb, lit<}
 use Rattle.laws.specs.Pick.{pick}
-use Rattle.laws.proofs.Table.{at}
-use Rattle.laws.proofs.Pick.{pick-ind, never}
+use Rattle.laws.proofs.Pick.{pick-ind}
 use Rattle.laws.proofs.Signed.{sub-ind, abs-mag}
-use Rattle.sensor.specs.declared.Setting.{Setting}
-use Rattle.sensor.specs.Taken.{exposureOf, alphas, quartersOf, settingOf, Sane}
-use Rattle.sensor.specs.Light.{adaptedZ, exposed, turned, lightOf}
-use Rattle.sensor.specs.Edge.{between, held, nine, Small, mode2, mode3, modeC, modeD, modeE, modeF, edgeOf, isPlain, signedAt, threeOf, nineOf, step4}
+use Rattle.lighting.specs.declared.Setting.{Setting}
+use Rattle.lighting.specs.Taken.{settingOf}
+use Rattle.filters.specs.Edge.{Small}
+use Rattle.sensor.specs.Nine.{signedAt, threeOf, nineOf, step4}
 use Rattle.sensor.specs.Row.{passes, rowFilter, step5}
 use Rattle.sensor.specs.Shade.{valueAt, element, shadeOf, shadeAt}
+use Rattle.filters.proofs.Facts.{held-small, edge-small}
 
--- ---- what is held
-
--- low, high and v itself are held to low..high by the tests of the number read back from v's bits
-module _ (low high : ℤ) {v : ℤ} (f : SFits w32 v) where
-  pub held-below : ltZ (toZ w32 (ofZ w32 v)) low ≡ true → low ≡ between low high v
-  held-below t = simp (rw (toZ-ofZ f) at t)
-
-  pub held-above : ltZ (toZ w32 (ofZ w32 v)) low ≡ false → ltZ high (toZ w32 (ofZ w32 v)) ≡ true → high ≡ between low high v
-  held-above t u = simp (rw (toZ-ofZ f) at t, rw (toZ-ofZ f) at u)
-
-  pub held-kept : ltZ (toZ w32 (ofZ w32 v)) low ≡ false → ltZ high (toZ w32 (ofZ w32 v)) ≡ false → toZ w32 (ofZ w32 v) ≡ between low high v
-  held-kept t u = simp (toZ-ofZ f, rw (toZ-ofZ f) at t, rw (toZ-ofZ f) at u)
-
-pub held-small : (v : ℤ) → mag (held v) < 128
-unfolding held
-held-small (pos n) = pick-ind (λ z. mag z < 128) (ltb 127 n) (λ e. lit< tt) (λ e. omega (arith, ltb-false 127 n e))
-held-small (negsuc n) = pick-ind (λ z. mag z < 128) (ltb 127 n) (λ e. lit< tt) (λ e. omega (arith, ltb-false 127 n e))
-
--- ---- the light
-
--- step 1 of a byte is a byte, by one test of all 256
-none : ℕ → List ℕ
-none zero = []
-none (suc n) = 0 ∷ none n
-
-pub adapted-byte : (v : ℕ) → v < 256 → T (nonNeg (adaptedZ v)) × (natAbs (adaptedZ v) < 256)
-unfolding adaptedZ none
-adapted-byte v h =
-    let p = and-yes (nonNeg (adaptedZ v)) (ltb (natAbs (adaptedZ v)) 256) (at (λ k x. nonNeg (adaptedZ k) && ltb (natAbs (adaptedZ k)) 256) (none 256) tt v h) in
-    (p .0, ltb→lt (natAbs (adaptedZ v)) 256 (p .1))
-
--- the light of any byte is a byte
-pub light-small : (set : Setting) (v : ℕ) → lightOf set v < 256
-unfolding lightOf turned exposed
-light-small set v = pick-ind (λ n. n < 256) (set .inverted) (λ e. omega arith) (λ e. omega arith)
-
--- ---- what the registers ask
-
-pub quarters-small : (k : ℕ) → getD alphas k 0 ≤ 20
-quarters-small zero = lit≤ tt
-quarters-small (suc zero) = lit≤ tt
-quarters-small (suc (suc zero)) = lit≤ tt
-quarters-small (suc (suc (suc zero))) = lit≤ tt
-quarters-small (suc (suc (suc (suc zero)))) = lit≤ tt
-quarters-small (suc (suc (suc (suc (suc zero))))) = lit≤ tt
-quarters-small (suc (suc (suc (suc (suc (suc zero)))))) = lit≤ tt
-quarters-small (suc (suc (suc (suc (suc (suc (suc zero))))))) = lit≤ tt
-quarters-small (suc (suc (suc (suc (suc (suc (suc (suc k)))))))) = lit≤ tt
-
--- an exposure below 65,536 is all that is wanted of the registers
-pub exposure-sane : (regs : List ℕ) → exposureOf regs < 65536 → Sane (settingOf regs)
-unfolding settingOf quartersOf
-exposure-sane regs h = record { exposure = h; quarters = quarters-small (getD regs 4 0 / 16 % 8) }
-
--- registers that are bytes have it
-pub setting-sane : (regs : List ℕ) → ((k : ℕ) → getD regs k 0 < 256) → Sane (settingOf regs)
-unfolding exposureOf
-setting-sane regs bytes = exposure-sane regs (omega (arith, bytes 2, bytes 3))
-
--- ---- the nine values and step 4
+-- ---- signed values
 
 -- a byte less 128 lies in −128..127, and what lies there, with 128 added, is a byte
 pub centred : (n : ℕ) → n < 256 → mag (pos n -ℤ pos 128) < 128
@@ -91,28 +28,6 @@ centred n h = sub-ind n 128 (λ z. mag z < 128) (λ k. omega arith) (λ k. omega
 pub raised : (z : ℤ) → mag z < 128 → T (nonNeg (z +ℤ pos 128)) × (natAbs (z +ℤ pos 128) < 256)
 raised (pos n) h = (tt, omega arith)
 raised (negsuc n) h = sub-ind 128 (suc n) (λ z. T (nonNeg z) × (natAbs z < 256)) (λ k. absurd (omega arith)) (λ k. (tt, omega arith))
-
--- modes 0 and 4 to B are P as it is
-pub edge-plain : (mode q : ℕ) (n : List (List ℤ)) → isPlain mode ≡ true → edgeOf mode q n ≡ nine n 1 1
-unfolding edgeOf
-edge-plain mode q n h = simp (no 0x1 refl, no 0x2 refl, no 0x3 refl, no 0xC refl, no 0xD refl, no 0xE refl, no 0xF refl)
-  where
-    no : (k : ℕ) → isPlain k ≡ false → eqb mode k ≡ false
-    no k f = ne-eqb mode k (λ e. never h (ap isPlain e ∙ f))
-
--- the value of any mode lies in −128..127
-module _ (n : List (List ℤ)) (s : Small n) (mode q : ℕ) where
-  pub edge-small : mag (edgeOf mode q n) < 128
-  unfolding edgeOf mode2 mode3 modeC modeD modeE modeF
-  edge-small =
-      let P : ℤ → Type 0 = λ z. mag z < 128 in
-      pick-ind P (eqb mode 0x1) (λ e. lit< tt) (λ e.
-      pick-ind P (eqb mode 0x2) (λ e. held-small _) (λ e.
-      pick-ind P (eqb mode 0x3) (λ e. held-small _) (λ e.
-      pick-ind P (eqb mode 0xC) (λ e. held-small _) (λ e.
-      pick-ind P (eqb mode 0xD) (λ e. held-small _) (λ e.
-      pick-ind P (eqb mode 0xE) (λ e. held-small _) (λ e.
-      pick-ind P (eqb mode 0xF) (λ e. held-small _) (λ e. s 1 1)))))))
 
 -- ---- the nine values of lit values that are bytes
 module _ (lit : ℕ → ℕ → ℕ) (bytes : (x row : ℕ) → lit x row < 256) where

@@ -5,8 +5,8 @@ use Prim.Native.Nat.{ℕ, _+_, _*_, _<_}
 use native.Mathlib.Omega.{arith}
 use lib.ListN.{length}
 use Rattle.laws.proofs.Packed.{listed-length, listed-at}
-use Rattle.sensor.specs.declared.Setting.{Setting}
-use Rattle.sensor.specs.Light.{lightFrame, byteAt, litOf}
+use Rattle.lighting.specs.declared.Setting.{Setting}
+use Rattle.lighting.specs.Light.{lightFrame, byteAt, litOf}
 use Rattle.sensor.proofs.Rows.{Alike}
 
 pub light-length : (image : List ℕ) (set : Setting) → length (lightFrame image set) ≡ 16384

@@ -9,9 +9,10 @@ use lib.Dec.{T, eqb, eqb→eq}
 use lib.ListN.{getD}
 use Rattle.laws.specs.Pick.{pick}
 use Rattle.laws.specs.Bits.{putBit}
-use Rattle.sensor.specs.Taken.{exposureOf, modeOf, quartersOf, kindOf, settingOf, invertedOf}
-use Rattle.sensor.specs.Light.{adaptedZ, adapted, exposed, turned, lightOf, litOf}
-use Rattle.sensor.specs.Edge.{held, edgeOf, mode2, modeD, modeE, signedAt, threeOf, nineOf, step4}
+use Rattle.lighting.specs.Taken.{exposureOf, modeOf, quartersOf, kindOf, settingOf, invertedOf}
+use Rattle.lighting.specs.Light.{adaptedZ, adapted, exposed, turned, lightOf, litOf}
+use Rattle.filters.specs.Edge.{held, edgeOf, mode2, modeD, modeE}
+use Rattle.sensor.specs.Nine.{signedAt, threeOf, nineOf, step4}
 use Rattle.sensor.specs.Row.{passes, rowFilter, step5}
 use Rattle.sensor.specs.Shade.{valueAt, shadeOf, shadeAt}
 use Rattle.timing.specs.Timing.{nSet, totalOf, readingFrom, rowsRead, firstRow, due, putPixel, writtenAt}

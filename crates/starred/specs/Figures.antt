@@ -6,9 +6,9 @@ use lib.IntN.{ℤ, pos, negsuc, natAbs, _+ℤ_}
 use lib.Dec.{eqb}
 use lib.ListN.{length, getD, replicate}
 use Rattle.laws.specs.Pick.{pick}
-use Rattle.sensor.specs.Taken.{settingOf, modeOf, quartersOf, kindOf}
-use Rattle.sensor.specs.Light.{adaptedZ, litOf}
-use Rattle.sensor.specs.Edge.{edgeOf}
+use Rattle.lighting.specs.Taken.{settingOf, modeOf, quartersOf, kindOf}
+use Rattle.lighting.specs.Light.{adaptedZ, litOf}
+use Rattle.filters.specs.Edge.{edgeOf}
 use Rattle.sensor.specs.Row.{rowFilter}
 use Rattle.sensor.specs.Shade.{shadeOf}
 use Rattle.timing.specs.Timing.{totalOf, writtenAt}

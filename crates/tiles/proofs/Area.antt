@@ -12,8 +12,8 @@ use borrow.Author.Tests.{eq-eqb, ne-eqb}
 use Rattle.laws.specs.Pick.{pick}
 use Rattle.laws.specs.Bits.{bitOf}
 use Rattle.laws.proofs.Order.{split}
-use Rattle.sensor.specs.Taken.{settingOf}
-use Rattle.sensor.specs.Light.{byteAt, litOf}
+use Rattle.lighting.specs.Taken.{settingOf}
+use Rattle.lighting.specs.Light.{byteAt, litOf}
 use Rattle.sensor.proofs.Rows as sensed
 use Rattle.tiles.specs.Tiles.{place, shadeIn, areaOf, Bytes}
 use Rattle.laws.specs.Lists.{listed, packed}

@@ -6,8 +6,8 @@ use Prim.Native.Nat.{ℕ, zero, suc, _+_, _/_, _%_, _<_, _≤_}
 use native.Mathlib.Omega.{arith}
 use lib.Dec.{leb}
 use Rattle.laws.specs.Pick.{pick}
-use Rattle.sensor.specs.declared.Setting.{Setting}
-use Rattle.sensor.specs.Light.{lightFrame, byteAt, litOf}
+use Rattle.lighting.specs.declared.Setting.{Setting}
+use Rattle.lighting.specs.Light.{lightFrame, byteAt, litOf}
 use Rattle.sensor.proofs.Rows.{Alike, rows}
 use Rattle.sensor.proofs.Lit.{light-alike}
 use Rattle.tiles.specs.Tiles.{putAt}

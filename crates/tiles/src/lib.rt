@@ -1,12 +1,12 @@
 // Step 7 of light to shade: where a shade stands in the RAM, a range of the picture's pixels put there, and the picture afresh.
 // It knows stores of lit values, registers and RAM bytes, but neither the bus nor time.
-use sensor::Setting;
+use lighting::Setting;
 ghost use mathlib.Core.Path.{_≡_};
 ghost use Prim.Native.Nat.{ℕ, _+_, _*_, _/_, _%_, _<_, _≤_};
 ghost use lib.ListN.{length};
 ghost use Rattle.laws.specs.Bits.{putBit};
-ghost use Rattle.sensor.specs.Taken.{Asked};
-ghost use Rattle.sensor.specs.Light.{byteAt};
+ghost use Rattle.lighting.specs.Taken.{Asked};
+ghost use Rattle.lighting.specs.Light.{byteAt};
 ghost use Rattle.tiles.specs.Tiles.{putAt};
 ghost use Rattle.tiles.specs.Picture.{lowByte, highByte, pictureOf};
 ghost use Rattle.tiles.specs.Bulk.{putNth, pixels};

@@ -8,7 +8,7 @@ use lib.Dec.{leb, ltb, eqb}
 use borrow.Author.Tests.{eqb-true, lt-ltb, le-ltb, le-leb, lt-leb, eq-eqb, ne-eqb}
 use Rattle.laws.specs.Pick.{pick}
 use Rattle.laws.proofs.Order.{split}
-use Rattle.sensor.specs.Taken.{exposureOf}
+use Rattle.lighting.specs.Taken.{exposureOf}
 use Rattle.timing.specs.Timing.{nSet, totalOf, readingFrom, rowsRead, firstRow, due, candidate, rowOf, putPixel, writtenAt}
 use Rattle.tiles.specs.Bulk.{putNth, pixels}
 use Rattle.tiles.proofs.Run.{pixels-suc}

@@ -6,7 +6,7 @@ use lib.Dec.{eqb, leb, ltb}
 use lib.ListN.{getD}
 use Rattle.laws.specs.Pick.{pick}
 use Rattle.laws.specs.Bits.{isSet}
-use Rattle.sensor.specs.Taken.{exposureOf}
+use Rattle.lighting.specs.Taken.{exposureOf}
 use Rattle.sensor.specs.Shade.{shadeAt}
 use Rattle.tiles.specs.Tiles.{putAt}
 

@@ -1,13 +1,13 @@
 // How long a capture takes, which of the picture's pixels fall into which cycles, and which lengths of lent memory are allowed.
 // It knows registers, lengths, RAM bytes and cycles, but neither the state record nor the bus, and refuses nothing.
-use sensor::Setting;
+use lighting::Setting;
 ghost use mathlib.Core.Path.{_≡_};
 ghost use mathlib.Core.Bool.{Bool, true, false};
 ghost use Prim.Native.Nat.{ℕ, _+_, _-_, _*_, _/_, _%_, _<_, _≤_, min};
 ghost use lib.ListN.{length};
 ghost use Rattle.laws.specs.Sums.{sumOf};
-ghost use Rattle.sensor.specs.Taken.{exposureOf};
-ghost use Rattle.sensor.specs.Light.{byteAt};
+ghost use Rattle.lighting.specs.Taken.{exposureOf};
+ghost use Rattle.lighting.specs.Light.{byteAt};
 ghost use Rattle.tiles.specs.Bulk.{pixels};
 ghost use Rattle.timing.specs.Lent.{banksAllowed, romAllowed, ramAllowed};
 ghost use Rattle.timing.specs.Registers.{allZero};

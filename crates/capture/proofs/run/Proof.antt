@@ -2,7 +2,7 @@
 use mathlib.Core.Path.{_∙_}
 use native.Mathlib.Omega.{arith}
 use borrow.Author.Needs.{needs}
-use Rattle.sensor.specs.Light.{byteAt}
+use Rattle.lighting.specs.Light.{byteAt}
 use Rattle.capture.proofs.Ticks.{going-outcome, over-outcome}
 use Rattle.capture.proofs.run.Statement.{statement}
 use Rattle.capture.proofs.run.Tie as tie

@@ -3,7 +3,7 @@ use mathlib.Core.Path.{_≡_, sym, ap, _∙_}
 use mathlib.Core.Bool.{true, false}
 use lib.ListN.{length}
 use Rattle.laws.proofs.Bools.{left-out, let-in, both-left}
-use Rattle.sensor.specs.Light.{byteAt}
+use Rattle.lighting.specs.Light.{byteAt}
 use Rattle.capture.specs.Calls.{ticked, tickMeans}
 use Rattle.capture.specs.Capture.{ticks, from}
 use Rattle.timing.proofs.Lent.{ram-lent, frame-lent}

@@ -1,8 +1,8 @@
 -- `cartridge::capture_write` meets its contract: a start lights the image by the registers that it takes. Assumes nothing.
 use mathlib.Core.Path.{sym, ap, _∙_}
 use borrow.Author.Needs.{needs}
-use Rattle.sensor.specs.Taken.{settingOf}
-use Rattle.sensor.specs.Light.{lightFrame}
+use Rattle.lighting.specs.Taken.{settingOf}
+use Rattle.lighting.specs.Light.{lightFrame}
 use Rattle.controller.specs.declared.Controller.{Controller}
 use Rattle.capture.specs.Capture.{begun}
 use Rattle.cartridge.specs.Bus.{captureWritten, storeWritten, withRegister}

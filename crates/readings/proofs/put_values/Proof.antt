@@ -3,7 +3,7 @@ use mathlib.Core.Path.{_≡_, ap}
 use Prim.Native.Nat.{ℕ, _-_, _≤_}
 use native.Mathlib.Omega.{arith}
 use Rattle.laws.proofs.Filled.{Filled, filled-none, filled-more, filled-end}
-use Rattle.sensor.specs.Light.{byteAt}
+use Rattle.lighting.specs.Light.{byteAt}
 use Rattle.sensor.specs.declared.Pixel.{Pixel}
 use Rattle.readings.specs.Readings.{reading}
 use borrow.Author.Needs.{needs}

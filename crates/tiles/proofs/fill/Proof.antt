@@ -4,7 +4,7 @@ use Prim.Native.Nat.{ℕ, _-_, _%_, _<_, _≤_}
 use native.Mathlib.Omega.{arith}
 use lib.ListN.{length, getD, length-set}
 use borrow.Author.Needs.{needs}
-use Rattle.sensor.specs.Light.{byteAt}
+use Rattle.lighting.specs.Light.{byteAt}
 use Rattle.tiles.specs.Picture.{pictureByte}
 use Rattle.tiles.proofs.Area.{picture-more, picture-made}
 use Rattle.tiles.proofs.fill.Statement.{statement}

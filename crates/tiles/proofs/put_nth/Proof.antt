@@ -2,7 +2,7 @@
 use Prim.Native.Nat.{_+_, _/_, _%_}
 use native.Mathlib.Omega.{arith}
 use borrow.Author.Needs.{needs}
-use Rattle.sensor.specs.Light.{byteAt}
+use Rattle.lighting.specs.Light.{byteAt}
 use Rattle.sensor.proofs.Facts.{shade-small}
 use Rattle.tiles.specs.Bulk.{putNth}
 use Rattle.tiles.proofs.Pixels.{shade-same}

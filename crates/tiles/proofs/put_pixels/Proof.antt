@@ -1,6 +1,6 @@
 -- `tiles::put_pixels` meets its contract. The invariant: the RAM is the pixels from `from` to j put into what it was. Assumes nothing.
 use Rattle.tiles.proofs.Run.{pixels-none, pixels-join}
-use Rattle.sensor.specs.Light.{byteAt}
+use Rattle.lighting.specs.Light.{byteAt}
 use Rattle.tiles.specs.Bulk.{pixels}
 use lib.ListN.{length}
 use native.Mathlib.Omega.{arith}

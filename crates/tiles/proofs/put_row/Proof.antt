@@ -3,7 +3,7 @@ use Rattle.tiles.proofs.Eight.{eight-by}
 use native.Mathlib.Omega.{arith}
 use lib.ListN.{length-set}
 use borrow.Author.Needs.{needs}
-use Rattle.sensor.specs.Light.{byteAt}
+use Rattle.lighting.specs.Light.{byteAt}
 use Rattle.tiles.proofs.put_row.Statement.{statement}
 use Rattle.tiles.proofs.put_row.Tie as tie
 

@@ -5,7 +5,7 @@ use native.Mathlib.Omega.{arith}
 use mathlib.Core.List.{List}
 use borrow.Author.Needs.{needs}
 use Rattle.laws.specs.Lists.{packed}
-use Rattle.sensor.specs.Light.{byteAt}
+use Rattle.lighting.specs.Light.{byteAt}
 use Rattle.tiles.specs.Picture.{pictureShade, lowByte, highByte}
 use Rattle.laws.proofs.Packed.{packed-none, packed-next, packed-room}
 use Rattle.sensor.proofs.Facts.{shade-small}

@@ -1,6 +1,6 @@
 -- `timing::exposure` meets its contract. Assumes nothing.
 use native.Mathlib.Omega.{arith}
-use Rattle.sensor.specs.Taken.{exposureOf}
+use Rattle.lighting.specs.Taken.{exposureOf}
 use borrow.Author.Needs.{needs}
 use Rattle.timing.proofs.exposure.Statement.{statement}
 use Rattle.timing.proofs.exposure.Tie as tie

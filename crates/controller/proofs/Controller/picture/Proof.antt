@@ -3,8 +3,8 @@
 use mathlib.Core.Path.{_≡_, ap, _∙_}
 use mathlib.Core.List.{List}
 use borrow.Author.Needs.{needs}
-use Rattle.sensor.specs.declared.Setting.{Setting}
-use Rattle.sensor.specs.Light.{byteAt, litOf}
+use Rattle.lighting.specs.declared.Setting.{Setting}
+use Rattle.lighting.specs.Light.{byteAt, litOf}
 use Rattle.tiles.specs.Picture.{pictureOf}
 use Rattle.tiles.proofs.Lit.{picture-light}
 use Rattle.timing.proofs.Lent.{frame-lent}

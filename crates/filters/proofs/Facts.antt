@@ -1,0 +1,58 @@
+-- The ranges that the filters keep. Assumes nothing.
+use mathlib.Core.Bool.{true, false}
+use mathlib.Core.List.{List}
+use mathlib.Core.Path.{_≡_, refl, ap, _∙_}
+use Prim.Native.Nat.{ℕ, _<_}
+use native.Mathlib.Omega.{arith}
+use borrow.Author.Tests.{ltb-false, ne-eqb}
+use lib.IntN.{ℤ, pos, negsuc}
+use lib.Signed.{mag, ltZ}
+use mir.Syntax.{w32}
+use mir.Val.{SFits, toZ, ofZ}
+use mir.Facts.{toZ-ofZ}
+use lib.Dec.{eqb, ltb, lit<}
+use Rattle.laws.proofs.Table.{at}
+use Rattle.laws.proofs.Pick.{pick-ind, never}
+use Rattle.filters.specs.Edge.{between, held, nine, Small, mode2, mode3, modeC, modeD, modeE, modeF, edgeOf, isPlain}
+
+-- ---- what is held
+
+-- low, high and v itself are held to low..high by the tests of the number read back from v's bits
+module _ (low high : ℤ) {v : ℤ} (f : SFits w32 v) where
+  pub held-below : ltZ (toZ w32 (ofZ w32 v)) low ≡ true → low ≡ between low high v
+  held-below t = simp (rw (toZ-ofZ f) at t)
+
+  pub held-above : ltZ (toZ w32 (ofZ w32 v)) low ≡ false → ltZ high (toZ w32 (ofZ w32 v)) ≡ true → high ≡ between low high v
+  held-above t u = simp (rw (toZ-ofZ f) at t, rw (toZ-ofZ f) at u)
+
+  pub held-kept : ltZ (toZ w32 (ofZ w32 v)) low ≡ false → ltZ high (toZ w32 (ofZ w32 v)) ≡ false → toZ w32 (ofZ w32 v) ≡ between low high v
+  held-kept t u = simp (toZ-ofZ f, rw (toZ-ofZ f) at t, rw (toZ-ofZ f) at u)
+
+pub held-small : (v : ℤ) → mag (held v) < 128
+unfolding held
+held-small (pos n) = pick-ind (λ z. mag z < 128) (ltb 127 n) (λ e. lit< tt) (λ e. omega (arith, ltb-false 127 n e))
+held-small (negsuc n) = pick-ind (λ z. mag z < 128) (ltb 127 n) (λ e. lit< tt) (λ e. omega (arith, ltb-false 127 n e))
+
+-- ---- step 4
+
+-- modes 0 and 4 to B are P as it is
+pub edge-plain : (mode q : ℕ) (n : List (List ℤ)) → isPlain mode ≡ true → edgeOf mode q n ≡ nine n 1 1
+unfolding edgeOf
+edge-plain mode q n h = simp (no 0x1 refl, no 0x2 refl, no 0x3 refl, no 0xC refl, no 0xD refl, no 0xE refl, no 0xF refl)
+  where
+    no : (k : ℕ) → isPlain k ≡ false → eqb mode k ≡ false
+    no k f = ne-eqb mode k (λ e. never h (ap isPlain e ∙ f))
+
+-- the value of any mode lies in −128..127
+module _ (n : List (List ℤ)) (s : Small n) (mode q : ℕ) where
+  pub edge-small : mag (edgeOf mode q n) < 128
+  unfolding edgeOf mode2 mode3 modeC modeD modeE modeF
+  edge-small =
+      let P : ℤ → Type 0 = λ z. mag z < 128 in
+      pick-ind P (eqb mode 0x1) (λ e. lit< tt) (λ e.
+      pick-ind P (eqb mode 0x2) (λ e. held-small _) (λ e.
+      pick-ind P (eqb mode 0x3) (λ e. held-small _) (λ e.
+      pick-ind P (eqb mode 0xC) (λ e. held-small _) (λ e.
+      pick-ind P (eqb mode 0xD) (λ e. held-small _) (λ e.
+      pick-ind P (eqb mode 0xE) (λ e. held-small _) (λ e.
+      pick-ind P (eqb mode 0xF) (λ e. held-small _) (λ e. s 1 1)))))))

@@ -1,0 +1,16 @@
+-- `filters::plain` meets its contract: each test is the definition's. Assumes nothing.
+use borrow.Author.Tests.{lt-ltb, le-ltb, ne-eqb}
+use Rattle.filters.proofs.plain.Statement.{statement}
+use Rattle.filters.proofs.plain.Tie as tie
+
+returns : tie.Need-returns
+returns c = rw (c .if1 .taken)
+
+returns-2 : tie.Need-returns-2
+returns-2 c = simp (ne-eqb _ _ (c .before .if1 .left), lt-ltb _ _ (c .if2 .taken))
+
+returns-3 : tie.Need-returns-3
+returns-3 c = simp (ne-eqb _ _ (c .before .if1 .left), le-ltb _ _ (c .if2 .left))
+
+pub plain-spec : {M : Type 1} → statement M
+plain-spec = tie.close (tie.spec returns returns-2 returns-3)

@@ -1,0 +1,2 @@
+-- From light to shade, step 4: the filters.
+pub mod Edge

@@ -1,0 +1,132 @@
+// From light to shade, step 4: the filters, each a function of nine signed values.
+ghost use mathlib.Core.Path.{_≡_};
+ghost use Prim.Native.Nat.{_+_, _-_, _/_, _<_, _≤_};
+ghost use lib.IntN.{natAbs};
+ghost use Rattle.filters.specs.Edge.{held, Small, acrossOf, uprightOf, aroundOf, enhanced, extracted, mode2, mode3, modeC, modeD, modeE, modeF, edgeOf, isPlain};
+
+// Held to -128..127.
+pub fn hold(v: i32) -> i32
+    ensures { λ r. ⌜ r ≡ held v ⌝ }
+{
+    if v < -128 {
+        return -128;
+    }
+    if 127 < v {
+        return 127;
+    }
+    v
+}
+
+// 2P - W - E.
+fn across(n: [[i32; 3]; 3]) -> i32
+    requires { ⌜ Small n ⌝ }
+    ensures { λ r. ⌜ r ≡ acrossOf n ⌝ }
+{
+    2 * n[1][1] - n[1][0] - n[1][2]
+}
+
+// 2P - N - S.
+fn upright(n: [[i32; 3]; 3]) -> i32
+    requires { ⌜ Small n ⌝ }
+    ensures { λ r. ⌜ r ≡ uprightOf n ⌝ }
+{
+    2 * n[1][1] - n[0][1] - n[2][1]
+}
+
+// 4P - N - S - E - W.
+fn around(n: [[i32; 3]; 3]) -> i32
+    requires { ⌜ Small n ⌝ }
+    ensures { λ r. ⌜ r ≡ aroundOf n ⌝ }
+{
+    4 * n[1][1] - n[0][1] - n[2][1] - n[1][2] - n[1][0]
+}
+
+// P + d times α, the quarters cut toward zero.
+fn enhance(quarters: u8, n: [[i32; 3]; 3], d: i32) -> i32
+    requires { ⌜ Small n ⌝ }
+    requires { ⌜ (quarters ≤ 20) × (natAbs d ≤ 1024) ⌝ }
+    ensures { λ r. ⌜ r ≡ enhanced quarters n d ⌝ }
+{
+    (4 * n[1][1] + quarters as i32 * d) / 4
+}
+
+// d times α, the quarters cut toward zero.
+fn extract(quarters: u8, d: i32) -> i32
+    requires { ⌜ (quarters ≤ 20) × (natAbs d ≤ 1024) ⌝ }
+    ensures { λ r. ⌜ r ≡ extracted quarters d ⌝ }
+{
+    quarters as i32 * d / 4
+}
+
+// The filters of modes 2, 3, C, D, E and F.
+pub fn mode_2(quarters: u8, n: [[i32; 3]; 3]) -> i32
+    requires { ⌜ (quarters ≤ 20) × Small n ⌝ }
+    ensures { λ r. ⌜ r ≡ mode2 quarters n ⌝ }
+{
+    hold(enhance(quarters, n, across(n)))
+}
+
+pub fn mode_3(quarters: u8, n: [[i32; 3]; 3]) -> i32
+    requires { ⌜ (quarters ≤ 20) × Small n ⌝ }
+    ensures { λ r. ⌜ r ≡ mode3 quarters n ⌝ }
+{
+    hold(extract(quarters, across(n)))
+}
+
+pub fn mode_c(quarters: u8, n: [[i32; 3]; 3]) -> i32
+    requires { ⌜ (quarters ≤ 20) × Small n ⌝ }
+    ensures { λ r. ⌜ r ≡ modeC quarters n ⌝ }
+{
+    hold(enhance(quarters, n, upright(n)))
+}
+
+pub fn mode_d(quarters: u8, n: [[i32; 3]; 3]) -> i32
+    requires { ⌜ (quarters ≤ 20) × Small n ⌝ }
+    ensures { λ r. ⌜ r ≡ modeD quarters n ⌝ }
+{
+    hold(extract(quarters, upright(n)))
+}
+
+pub fn mode_e(quarters: u8, n: [[i32; 3]; 3]) -> i32
+    requires { ⌜ (quarters ≤ 20) × Small n ⌝ }
+    ensures { λ r. ⌜ r ≡ modeE quarters n ⌝ }
+{
+    hold(enhance(quarters, n, around(n)))
+}
+
+pub fn mode_f(quarters: u8, n: [[i32; 3]; 3]) -> i32
+    requires { ⌜ (quarters ≤ 20) × Small n ⌝ }
+    ensures { λ r. ⌜ r ≡ modeF quarters n ⌝ }
+{
+    hold(extract(quarters, around(n)))
+}
+
+// Step 4: the value by the mode.
+pub fn edge(mode: u8, quarters: u8, n: [[i32; 3]; 3]) -> i32
+    requires { ⌜ (quarters ≤ 20) × Small n ⌝ }
+    ensures { λ r. ⌜ r ≡ edgeOf mode quarters n ⌝ }
+{
+    match mode {
+        0x1 => 0,
+        0x2 => mode_2(quarters, n),
+        0x3 => mode_3(quarters, n),
+        0xC => mode_c(quarters, n),
+        0xD => mode_d(quarters, n),
+        0xE => mode_e(quarters, n),
+        0xF => mode_f(quarters, n),
+        _ => n[1][1],
+    }
+}
+
+// Modes 0 and 4 to B give P as it is.
+pub fn plain(mode: u8) -> bool
+    ensures { λ r. ⌜ r ≡ isPlain mode ⌝ }
+{
+    if mode == 0 {
+        return true;
+    }
+    if mode < 4 {
+        return false;
+    }
+    mode < 12
+}

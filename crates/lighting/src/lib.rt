@@ -1,0 +1,102 @@
+// From light to shade, steps 1 to 3: what the registers taken ask, and the light of a pixel and of a whole image.
+ghost use mathlib.Core.Path.{_≡_};
+ghost use Prim.Native.Nat.{_+_, _-_, _/_, _%_, _<_};
+ghost use lib.ListN.{length, getD};
+ghost use Rattle.lighting.specs.Taken.{exposureOf, alphas, Sane, Asked};
+ghost use Rattle.lighting.specs.Light.{adapted, exposed, turned, lightOf, lightFrame};
+
+// What the registers taken ask of every pixel, worked out once.
+pub struct Setting {
+    pub exposure: u32,
+    pub inverted: bool,
+    pub mode: u8,
+    pub quarters: u8,
+    pub kind: u8,
+}
+
+// α in quarters, by bits 6-4 of A004.
+const ALPHAS: [u8; 8] = [2, 3, 4, 5, 8, 12, 16, 20];
+
+// A byte as a wider number, with its bound.
+fn wide(x: u8) -> u32
+    ensures { λ r. ⌜ (r ≡ x) × (r < 256) ⌝ }
+{
+    x as u32
+}
+
+// α in quarters of the byte of A004.
+fn quarters_of(byte: u8) -> u8
+    ensures { λ r. ⌜ r ≡ getD alphas (byte / 16 % 8) 0 ⌝ }
+{
+    ALPHAS[(byte / 16 % 8) as usize]
+}
+
+// The exposure of the registers, with the bound that two bytes have.
+fn exposure_of(regs: &[u8; 54]) -> u32
+    ensures { λ r. ⌜ (r ≡ exposureOf (now (regs .entry))) × (r < 65536) ⌝ }
+{
+    wide(regs[2]) * 256 + wide(regs[3])
+}
+
+impl Setting {
+    // What 54 registers ask.
+    pub fn of(regs: &[u8; 54]) -> Setting
+        ensures { λ r. ⌜ Asked r (now (regs .entry)) ⌝ }
+    {
+        Setting {
+            exposure: exposure_of(regs),
+            inverted: regs[4] / 8 % 2 == 1,
+            mode: 8 * (regs[1] / 128 % 2) + 2 * (regs[1] / 32 % 4) + regs[4] / 128 % 2,
+            quarters: quarters_of(regs[4]),
+            kind: regs[0] / 2 % 4,
+        }
+    }
+}
+
+// Step 1, by its formula: a loop over pixels becomes vector code, and no table is carried.
+pub fn adapt(v: u8) -> u8
+    ensures { λ r. ⌜ r ≡ adapted v ⌝ }
+{
+    (128 + (v as i32 - 128) * 5 / 8) as u8
+}
+
+// Step 2: times exposure / 256, at most 255.
+pub fn expose(exposure: u32, v: u8) -> u8
+    requires { ⌜ exposure < 65536 ⌝ }
+    ensures { λ r. ⌜ r ≡ exposed exposure v ⌝ }
+{
+    let n = wide(v) * exposure / 256;
+    if n < 255 {
+        return n as u8;
+    }
+    255
+}
+
+// Step 3: 255 - v if the picture is turned to its negative.
+pub fn turn(inverted: bool, v: u8) -> u8
+    ensures { λ r. ⌜ r ≡ turned inverted v ⌝ }
+{
+    if inverted {
+        return 255 - v;
+    }
+    v
+}
+
+// Steps 1 to 3, before 128 is subtracted.
+pub fn light(set: Setting, v: u8) -> u8
+    requires { ⌜ Sane set ⌝ }
+    ensures { λ r. ⌜ r ≡ lightOf set v ⌝ }
+{
+    turn(set.inverted, expose(set.exposure, adapt(v)))
+}
+
+// The light of a whole image: steps 1 to 3 of each pixel, before 128 is subtracted.
+pub fn light_frame(image: &[u8], set: Setting, store: &mut [u8])
+    requires { ⌜ (length (now store) ≡ 16384) × (length (now image) ≡ 16384) ⌝ }
+    requires { ⌜ Sane set ⌝ }
+    ensures { λ _. ⌜ now (store .exit) ≡ lightFrame (now (image .entry)) set ⌝ }
+{
+    for i in 0..16384 {
+        store[i] = light(set, image[i]);
+    }
+}
