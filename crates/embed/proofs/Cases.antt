@@ -54,7 +54,7 @@ use Rattle.salvaging.specs.Salvage.{Salvaging, salvageRows, salvageDone, salvag
 use Rattle.salvaging.proofs.Cleaned.{cleaned-long, lines-few}
 use Rattle.salvaging.proofs.Outcomes.{salvage-long}
 use Rattle.layout.specs.Layout.{encoded, isRecord, decoded}
-use Rattle.embed.specs.Packed.{packed}
+use Rattle.answers.specs.Packed.{packed}
 use Rattle.embed.specs.Exports.{called, asBytes, noRecord, unread, resetBytes, readBytes, writeBytes, tickBytes, inspected, inspectBytes, filled, asDrawn, pictureBytes, asLine, recordBytes, asWritten, exportBytes, shadesBytes, placeBytes, readingsBytes, asRead, importBytes, plainIn, exposureIn, chooseBytes, reported, asReported, salvageBytes}
 use Rattle.layout.proofs.Inverse.{encode-decode}
 

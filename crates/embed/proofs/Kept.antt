@@ -23,7 +23,7 @@ use Rattle.layout.proofs.Inverse.{encode-decode}
 use Rattle.embed.proofs.Cases.{kept, write-unread, write-done, tick-unread, tick-done, choose-unread, choose-done, place-unread, place-done, readings-unread, readings-done}
 use Rattle.embed.proofs.Only.{Says, write-says, tick-says, choose-says, place-says, export-says, shades-says, readings-says, salvage-says}
 use Rattle.salvaging.specs.Salvage.{unsalvaged, salvageRows, salvageDone, salvageMeans}
-use Rattle.embed.specs.Packed.{packed}
+use Rattle.answers.specs.Packed.{packed}
 
 pub record Keeps (c : Called) (s m f : List ℕ) : Type 0 where
   pub state : c .state ≡ s

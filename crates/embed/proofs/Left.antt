@@ -33,7 +33,7 @@ use Rattle.desk.specs.Choice.{withRegisters, chooseRows, chooseMeans}
 use Rattle.desk.proofs.Choices.{choose-refuses}
 use Rattle.desk.proofs.Level.{chosen-length}
 use Rattle.layout.specs.Layout.{encoded, isRecord, fourAt, decoded}
-use Rattle.embed.specs.Packed.{packed}
+use Rattle.answers.specs.Packed.{packed}
 use Rattle.embed.specs.Exports.{Called, asBytes, writeBytes, tickBytes, plainIn, exposureIn, chooseBytes, placeBytes}
 use Rattle.layout.proofs.Inverse.{Whole, record-parts, encoded-record, decode-encode, encode-decode}
 use Rattle.embed.proofs.Cases.{write-done, tick-done, choose-done, place-unread, place-done, place-state}

@@ -40,7 +40,7 @@ use Rattle.desk.specs.Choice.{chooseMeans}
 use Rattle.desk.proofs.Choices.{choose-refuses}
 use Rattle.salvaging.specs.Salvage.{salvageMeans}
 use Rattle.layout.specs.Layout.{isRecord, decoded}
-use Rattle.embed.specs.Packed.{packed}
+use Rattle.answers.specs.Packed.{packed}
 use Rattle.embed.specs.Exports.{readBytes, writeBytes, tickBytes, elementValue, inspectBytes, recordBytes, exportBytes, shadesBytes, placeBytes, readingsBytes, importBytes, plainIn, exposureIn, chooseBytes, countsOf, salvageBytes}
 use Rattle.embed.proofs.Cases.{read-done, write-done, tick-done, inspect-done, choose-done, place-done, readings-done, salvage-most}
 

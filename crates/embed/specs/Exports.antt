@@ -24,7 +24,7 @@ use Rattle.desk.specs.declared.choice.Exposure.the-variants.{Named, Unnamed}
 use Rattle.desk.specs.Choice.{chooseMeans}
 use Rattle.salvaging.specs.Salvage.{Salvaging, salvageMeans}
 use Rattle.layout.specs.Layout.{encoded, isRecord, decoded}
-use Rattle.embed.specs.Packed.{packed}
+use Rattle.answers.specs.Packed.{packed}
 
 -- an answer, and the bytes left: state, RAM, frame store; what a call is not lent is the empty list
 pub record Called : Type 0 where

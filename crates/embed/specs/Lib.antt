@@ -1,3 +1,2 @@
--- The meaning of the exported functions: how an answer is packed, and what each call leaves.
-pub mod Packed
+-- The meaning of the exported functions: what each call answers and leaves.
 pub mod Exports

@@ -1,6 +1,6 @@
 // Scripts salvaged, for who is handed recordings with broken lines or a second copy on the end.
-use super::answer::pack;
-use super::answer::refused;
+use answers::pack;
+use answers::refused;
 use salvaging::Salvaged;
 use salvaging::salvage;
 ghost use mathlib.Core.Path.{_≡_};

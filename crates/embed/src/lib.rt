@@ -1,13 +1,12 @@
 // What C and Rust call: the controller over numbers and byte slices, with the state record as 121 bytes (layout).
 // Each function answers the refusal's number * 2^32 + the value (answer). A refused call changes no byte it was lent.
-mod answer;
 mod clean;
 mod record;
 
-use answer::done_answer;
-use answer::output_answer;
-use answer::pack;
-use answer::refused;
+use answers::done_answer;
+use answers::output_answer;
+use answers::pack;
+use answers::refused;
 use controller::Controller;
 use controller::Element;
 use controller::ReadAnswer;

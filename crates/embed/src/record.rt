@@ -1,5 +1,5 @@
 // Frames written as script lines, for a recorder of a live session. The answer's value is the line's length with its LF.
-use super::answer::line_answer;
+use answers::line_answer;
 use lines::line::Frame;
 use lines::record::record_read;
 use lines::record::record_reset;

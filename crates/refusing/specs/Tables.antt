@@ -13,7 +13,7 @@ use Rattle.readings.specs.Readings.{notHeld}
 use Rattle.script.specs.Text.{linesOf}
 use Rattle.salvaging.specs.Salvage.{cleaned}
 use Rattle.layout.specs.Layout.{isRecord, decoded}
-use Rattle.embed.specs.Packed.{packed}
+use Rattle.answers.specs.Packed.{packed}
 use Rattle.embed.specs.Exports.{Called, called, Filled, filled, Reported, reported}
 
 -- the number in an answer: what stands above 2^32

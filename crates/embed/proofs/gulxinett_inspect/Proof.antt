@@ -5,7 +5,7 @@ use Prim.Native.Nat.{_+_, _*_}
 use borrow.Author.Needs.{needs}
 use Rattle.laws.proofs.Bools.{left-out, let-in}
 use Rattle.layout.specs.Layout.{isRecord}
-use Rattle.embed.specs.Packed.{packed}
+use Rattle.answers.specs.Packed.{packed}
 use Rattle.embed.proofs.Cases.{inspect-unread, inspect-found}
 use Rattle.embed.proofs.gulxinett_inspect.Statement.{statement}
 use Rattle.embed.proofs.gulxinett_inspect.Tie as tie

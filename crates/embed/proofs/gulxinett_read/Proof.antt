@@ -6,7 +6,7 @@ use borrow.Author.Needs.{needs}
 use Rattle.tiles.specs.Tiles.{Bytes}
 use Rattle.laws.proofs.Bools.{left-out, let-in}
 use Rattle.layout.specs.Layout.{isRecord}
-use Rattle.embed.specs.Packed.{packed}
+use Rattle.answers.specs.Packed.{packed}
 use Rattle.embed.specs.Exports.{called}
 use Rattle.embed.proofs.Cases.{read-unread, read-byte, read-refusal}
 use Rattle.embed.proofs.gulxinett_read.Statement.{statement}

@@ -1,7 +1,7 @@
 -- `embed::clean::gulxinett_salvage` meets its contract: the two counts in one value, or the refusal. Assumes nothing.
 use mathlib.Core.Path.{ap, _∙_}
 use borrow.Author.Needs.{needs}
-use Rattle.embed.specs.Packed.{packed}
+use Rattle.answers.specs.Packed.{packed}
 use Rattle.embed.proofs.Cases.{cleaned-most, salvage-reported}
 use Rattle.embed.proofs.clean.gulxinett_salvage.Statement.{statement}
 use Rattle.embed.proofs.clean.gulxinett_salvage.Tie as tie

@@ -1,4 +1,4 @@
--- `embed::answer::line_answer` meets its contract: the length packed, or the refusal. Assumes nothing.
+-- `answers::line_answer` meets its contract: the length packed, or the refusal. Assumes nothing.
 use mathlib.Core.Path.{sym, ap, _∙_}
 use mathlib.Core.List.{[]}
 use native.Mathlib.Omega.{arith}
@@ -6,8 +6,8 @@ use borrow.Author.Needs.{needs}
 use Rattle.lines.specs.declared.record.Recorded.{Recorded}
 use Rattle.lines.specs.Record.{recorded}
 use Rattle.embed.specs.Exports.{asLine}
-use Rattle.embed.proofs.answer.line_answer.Statement.{statement}
-use Rattle.embed.proofs.answer.line_answer.Tie as tie
+use Rattle.answers.proofs.line_answer.Statement.{statement}
+use Rattle.answers.proofs.line_answer.Tie as tie
 
 pub line-answer-spec : {M : Type 1} → statement M
 line-answer-spec =

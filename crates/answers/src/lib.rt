@@ -9,8 +9,7 @@ ghost use Prim.Native.Nat.{_≤_};
 ghost use Rattle.controller.specs.Outcome.{numberOf, writeNumber};
 ghost use Rattle.lines.specs.Record.{recorded};
 ghost use Rattle.shades.specs.Shades.{outputNumber, outputValue};
-ghost use Rattle.embed.specs.Packed.{packed};
-ghost use Rattle.embed.specs.Exports.{asLine};
+ghost use Rattle.answers.specs.Packed.{packed};
 
 // A number and a value, packed.
 pub fn pack(number: u32, value: u32) -> u64
@@ -49,7 +48,7 @@ pub fn output_answer(a: Output) -> u64
 // A line that was recorded: its length with the LF, or the refusal.
 pub fn line_answer(a: Recorded) -> u64
     requires { ⌜ recorded a [] .length ≤ 261 ⌝ }
-    ensures { λ r. ⌜ r ≡ asLine (recorded a []) .answer ⌝ }
+    ensures { λ r. ⌜ r ≡ packed (recorded a [] .number) (recorded a [] .length) ⌝ }
 {
     match a {
         Recorded::Line(n) => pack(0, n as u32),

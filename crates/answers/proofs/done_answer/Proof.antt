@@ -1,11 +1,11 @@
--- `embed::answer::done_answer` meets its contract: done, or the refusal, with the value 0. Assumes nothing.
+-- `answers::done_answer` meets its contract: done, or the refusal, with the value 0. Assumes nothing.
 use mathlib.Core.Path.{sym, ap, _∙_}
 use borrow.Author.Needs.{needs}
 use Rattle.controller.specs.declared.WriteAnswer.{WriteAnswer}
 use Rattle.controller.specs.Outcome.{writeNumber}
-use Rattle.embed.specs.Packed.{packed}
-use Rattle.embed.proofs.answer.done_answer.Statement.{statement}
-use Rattle.embed.proofs.answer.done_answer.Tie as tie
+use Rattle.answers.specs.Packed.{packed}
+use Rattle.answers.proofs.done_answer.Statement.{statement}
+use Rattle.answers.proofs.done_answer.Tie as tie
 
 pub done-answer-spec : {M : Type 1} → statement M
 done-answer-spec =

@@ -1,11 +1,11 @@
--- `embed::answer::output_answer` meets its contract: the bytes written, or the refusal. Assumes nothing.
+-- `answers::output_answer` meets its contract: the bytes written, or the refusal. Assumes nothing.
 use mathlib.Core.Path.{sym, ap, _∙_}
 use borrow.Author.Needs.{needs}
 use Rattle.shades.specs.declared.Output.{Output}
 use Rattle.shades.specs.Shades.{outputNumber, outputValue}
-use Rattle.embed.specs.Packed.{packed}
-use Rattle.embed.proofs.answer.output_answer.Statement.{statement}
-use Rattle.embed.proofs.answer.output_answer.Tie as tie
+use Rattle.answers.specs.Packed.{packed}
+use Rattle.answers.proofs.output_answer.Statement.{statement}
+use Rattle.answers.proofs.output_answer.Tie as tie
 
 pub output-answer-spec : {M : Type 1} → statement M
 output-answer-spec =

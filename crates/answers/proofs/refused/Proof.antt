@@ -1,9 +1,9 @@
--- `embed::answer::refused` meets its contract: the number packed with the value 0. Assumes nothing.
+-- `answers::refused` meets its contract: the number packed with the value 0. Assumes nothing.
 use mathlib.Core.Path.{ap, _∙_}
-use Rattle.embed.specs.Packed.{packed}
+use Rattle.answers.specs.Packed.{packed}
 use borrow.Author.Needs.{needs}
-use Rattle.embed.proofs.answer.refused.Statement.{statement}
-use Rattle.embed.proofs.answer.refused.Tie as tie
+use Rattle.answers.proofs.refused.Statement.{statement}
+use Rattle.answers.proofs.refused.Tie as tie
 
 pub refused-spec : {M : Type 1} → statement M
 refused-spec = tie.close (tie.spec

@@ -1,9 +1,9 @@
--- `embed::answer::pack` meets its contract: two numbers of 32 bits fit 64. Assumes nothing.
+-- `answers::pack` meets its contract: two numbers of 32 bits fit 64. Assumes nothing.
 use native.Mathlib.Omega.{arith}
-use Rattle.embed.specs.Packed.{packed}
+use Rattle.answers.specs.Packed.{packed}
 use borrow.Author.Needs.{needs}
-use Rattle.embed.proofs.answer.pack.Statement.{statement}
-use Rattle.embed.proofs.answer.pack.Tie as tie
+use Rattle.answers.proofs.pack.Statement.{statement}
+use Rattle.answers.proofs.pack.Tie as tie
 
 returns : tie.Need-returns
 unfolding packed

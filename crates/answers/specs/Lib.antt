@@ -1,0 +1,2 @@
+-- How an exported function's answer is packed.
+pub mod Packed
