@@ -33,9 +33,6 @@ pub(crate) const OCTET: usize = 8;
 pub(crate) const TILE: usize = 16;
 /// Edge ratios in quarters: 50, 75, 100, 125, 200, 300, 400 and 500 per cent.
 const RATIOS: [i16; 8] = [2, 3, 4, 5, 8, 12, 16, 20];
-/// An exposure that makes 255 of the least that step 1 leaves, 48, so that none above it gives more;
-/// up to it signed 16 bits hold what step 2 makes.
-const ENOUGH: u16 = 255 * 256 / 48;
 /// Fewer pixels than this are drawn one by one: a row is worked out as a whole, which takes as long.
 const FEW: usize = 12;
 
@@ -51,13 +48,12 @@ pub fn picture(image: &[u8], registers: &[u8; REGISTERS]) -> Result<Plate, Refus
 
 /// Steps 1 to 3 before 128 is subtracted, for every pixel of an image.
 pub(crate) fn light(store: &mut [u8], image: &[u8], registers: &[u8; REGISTERS]) {
-    let exposure = u16::from_be_bytes([registers[2], registers[3]]);
-    let exposure = u32::from(exposure.min(ENOUGH));
+    let exposure = u32::from(u16::from_be_bytes([registers[2], registers[3]]));
     let flip = if registers[4] & 8 != 0 { 255 } else { 0 };
     for (lit, &v) in store.iter_mut().zip(image) {
         // The product is taken in the upper half of 32 bits to divide by 256.
         let exposed = (u32::from(adapt(v) << 8) * exposure) >> 16;
-        *lit = (exposed as i16).clamp(0, 255) as u8 ^ flip;
+        *lit = (exposed as u16).min(255) as u8 ^ flip;
     }
 }
 

@@ -11,14 +11,15 @@ pub struct Effort {
 }
 
 impl Effort {
+    // A sample is short, so that on a busy machine some still run from end to end.
     pub const FULL: Effort = Effort {
-        rounds: 81,
-        sample: Duration::from_millis(8),
+        rounds: 301,
+        sample: Duration::from_millis(1),
         script_rounds: 15,
     };
     pub const QUICK: Effort = Effort {
-        rounds: 15,
-        sample: Duration::from_millis(4),
+        rounds: 61,
+        sample: Duration::from_millis(1),
         script_rounds: 3,
     };
 }

@@ -284,7 +284,7 @@ fn a_start_lights_every_pixel_with_the_registers_just_taken() {
         let mut taken: [u8; 54] = random.bytes(54).try_into().unwrap();
         taken[0] = taken[0] & 6 | 1;
         taken[2] >>= round % 8;
-        // Around what no exposure above changes, and the largest.
+        // Around the exposure from which on every light becomes 255, and the largest.
         if let Some(exposure) = [1_359_u16, 1_360, 1_361, 0xFFFF, 0].get(round / 2) {
             taken[2..4].copy_from_slice(&exposure.to_be_bytes());
         }
