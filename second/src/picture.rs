@@ -205,11 +205,12 @@ impl<'a> Sensor<'a> {
         let thresholds = Thresholds::new(self.matrix, y);
         self.each_row(y..y + 1, |y, values| {
             let planes = thresholds.shade(values);
-            for octet in columns.start / OCTET..columns.end.div_ceil(OCTET) {
+            let octets = columns.start / OCTET..columns.end.div_ceil(OCTET);
+            for (octet, plane) in octets.clone().zip(&planes[octets]) {
                 let left = columns.start.saturating_sub(octet * OCTET);
                 let right = (columns.end - octet * OCTET).min(OCTET);
                 let mask = (0xFF_u8 >> left) & (0xFF00_u16 >> right) as u8;
-                put(plate, place(octet * OCTET, y), mask, planes[octet]);
+                put(plate, place(octet * OCTET, y), mask, *plane);
             }
         });
     }
