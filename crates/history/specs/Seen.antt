@@ -8,6 +8,8 @@ use lib.ListN.{set}
 use Rattle.laws.specs.Pick.{pick}
 use Rattle.timing.specs.Timing.{totalOf}
 use Rattle.tiles.specs.Tiles.{areaOf, Bytes}
+use Rattle.lighting.specs.Taken.{settingOf}
+use Rattle.lighting.specs.Light.{litOf}
 use Rattle.tiles.specs.Picture.{pictureOf}
 use Rattle.controller.specs.declared.Controller.{Controller}
 use Rattle.cartridge.specs.Bus.{registersOn, ramWritable, ramPlace}
@@ -88,7 +90,7 @@ registersOf s = set (worldBefore s .state .registers) 0 (s .byte % 8)
 
 -- the picture afresh from an image and registers; of a start, from the image lent to it and the registers at it
 abbrev pub afresh : List ℕ → List ℕ → List ℕ
-afresh image regs = pictureOf image regs
+afresh image regs = pictureOf (litOf image (settingOf regs)) regs
 
 abbrev pub afreshOf : {ram store : List ℕ} {calls : List Call} → Start ram store calls → List ℕ
 afreshOf s = afresh (s .image) (registersOf s)
