@@ -1,0 +1,2 @@
+-- The meaning of the checksum.
+pub mod Crc
