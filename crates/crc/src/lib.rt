@@ -1,6 +1,7 @@
 // CRC-32, as zlib, PNG and gzip have it: a byte at a time, by a table.
 ghost use mathlib.Core.Path.{_≡_};
 ghost use Rattle.crc.specs.Crc.{byteStep, over, updated, crcOf};
+ghost use Rattle.crc.specs.Table.{byteTable};
 
 // What eight bits make of each byte.
 const TABLE: [u32; 256] = [
@@ -266,29 +267,31 @@ const TABLE: [u32; 256] = [
 const ONES: u32 = 0xFFFFFFFF;
 
 // The register after one more byte.
-fn byte_step(c: u32, b: u8) -> u32
+fn byte_step(table: &[u32; 256], c: u32, b: u8) -> u32
+    requires { ⌜ now table ≡ byteTable ⌝ }
     ensures { λ r. ⌜ r ≡ byteStep c b ⌝ }
 {
     let k = (c ^ b as u32) % 256;
-    TABLE[k as usize] ^ (c / 256)
+    table[k as usize] ^ (c / 256)
 }
 
 // The register after some bytes.
-fn run(start: u32, bytes: &[u8]) -> u32
+fn run(table: &[u32; 256], start: u32, bytes: &[u8]) -> u32
+    requires { ⌜ now table ≡ byteTable ⌝ }
     ensures { λ r. ⌜ r ≡ over start (now (bytes .entry)) ⌝ }
 {
     let mut c = start;
     for i in 0..bytes.len() {
-        c = byte_step(c, bytes[i]);
+        c = byte_step(table, c, bytes[i]);
     }
     c
 }
 
-// The checksum of bytes that go on after those of a checksum; that of none is 0.
+// The checksum of bytes that go on after those of a checksum; that of none is 0. The table is lent once.
 pub fn update(crc: u32, bytes: &[u8]) -> u32
     ensures { λ r. ⌜ r ≡ updated crc (now (bytes .entry)) ⌝ }
 {
-    run(crc ^ ONES, bytes) ^ ONES
+    run(&TABLE, crc ^ ONES, bytes) ^ ONES
 }
 
 // The checksum of bytes.
