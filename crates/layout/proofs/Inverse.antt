@@ -38,14 +38,14 @@ sum-up : (n m k l x y z : ℕ) → n ≡ x + 256 * m → m ≡ y + 256 * k → k
 sum-up n m k l x y z p q r = omega arith
 
 -- its bytes make it up again
-bytes-back : (n : ℕ) → n < 4294967296 → n % 256 + 256 * (n / 256 % 256) + 65536 * (n / 65536 % 256) + 16777216 * (n / 16777216 % 256) ≡ n
+pub bytes-back : (n : ℕ) → n < 4294967296 → n % 256 + 256 * (n / 256 % 256) + 65536 * (n / 65536 % 256) + 16777216 * (n / 16777216 % 256) ≡ n
 bytes-back n h =
     let top : n / 16777216 % 256 ≡ n / 16777216 = omega arith in
     ap (λ t. n % 256 + 256 * (n / 256 % 256) + 65536 * (n / 65536 % 256) + 16777216 * t) top
     ∙ sum-up n (n / 256) (n / 65536) (n / 16777216) (n % 256) (n / 256 % 256) (n / 65536 % 256) (omega arith) (omega arith) (omega arith)
 
 -- the bytes of what four bytes make up
-bytes-of : (a b c d : ℕ) → a < 256 → b < 256 → c < 256 → d < 256 → lowFirst (a + 256 * b + 65536 * c + 16777216 * d) ≡ a ∷ b ∷ c ∷ d ∷ []
+pub bytes-of : (a b c d : ℕ) → a < 256 → b < 256 → c < 256 → d < 256 → lowFirst (a + 256 * b + 65536 * c + 16777216 * d) ≡ a ∷ b ∷ c ∷ d ∷ []
 bytes-of a b c d ha hb hc hd =
     let n = a + 256 * b + 65536 * c + 16777216 * d in
     let p : n % 256 ≡ a = omega arith in
@@ -84,7 +84,7 @@ flag-byte : (b : Bool) → flag b < 256
 flag-byte true = omega arith
 flag-byte false = omega arith
 
-append-bytes : (xs ys : List ℕ) → Bytes xs → Bytes ys → Bytes (xs ++ ys)
+pub append-bytes : (xs ys : List ℕ) → Bytes xs → Bytes ys → Bytes (xs ++ ys)
 append-bytes [] ys p q i = q i
 append-bytes (x ∷ xs) ys p q zero = p 0
 append-bytes (x ∷ xs) ys p q (suc i) = append-bytes xs ys (λ j. p (suc j)) q i

@@ -38,7 +38,7 @@ pub fn is_record(state: &[u8]) -> bool
 }
 
 // Four bytes from a place on as one number, the lowest first.
-fn four_at(state: &[u8], at: usize) -> u32
+pub fn four_at(state: &[u8], at: usize) -> u32
     requires { ⌜ at + 4 ≤ length (now state) ⌝ }
     ensures { λ r. ⌜ r ≡ fourAt (now (state .entry)) at ⌝ }
 {

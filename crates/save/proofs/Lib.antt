@@ -1,0 +1,3 @@
+-- Laws of saves.
+pub mod Put
+pub mod Saved

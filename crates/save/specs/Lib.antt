@@ -1,0 +1,2 @@
+-- One save file, written.
+pub mod Save

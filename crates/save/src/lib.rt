@@ -1,0 +1,3 @@
+// One save file: state record, RAM and frame store of one moment, with a checksum over all of them.
+mod parts;
+pub mod writing;
