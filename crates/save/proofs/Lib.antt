@@ -1,3 +1,4 @@
 -- Laws of saves.
 pub mod Put
 pub mod Saved
+pub mod Restored

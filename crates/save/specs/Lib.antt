@@ -1,2 +1,3 @@
--- One save file, written.
+-- One save file, written and read.
 pub mod Save
+pub mod Restore
