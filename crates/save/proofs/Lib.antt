@@ -2,3 +2,5 @@
 pub mod Put
 pub mod Saved
 pub mod Restored
+pub mod RoundTrip
+pub mod Changed
