@@ -244,7 +244,7 @@ module _ (f : Frame) (bytes out : List ℕ) (a : Recorded) (left : List ℕ) (me
 -- ---- the picture area as a grey image, and as shades
 
 -- bytes written into a lent buffer
-written : (m : Exported) (r : Output) (left : List ℕ) → exported (outputNumber r) (outputValue r) left ≡ m → (p : ℕ) → p ≡ packed (outputNumber r) (outputValue r) → filled p left ≡ asWritten m
+pub written : (m : Exported) (r : Output) (left : List ℕ) → exported (outputNumber r) (outputValue r) left ≡ m → (p : ℕ) → p ≡ packed (outputNumber r) (outputValue r) → filled p left ≡ asWritten m
 written m r left means p q = (λ i. filled (q i) left) ∙ ap asWritten means
 
 module _ (ram out : List ℕ) (r : Output) (left : List ℕ) where

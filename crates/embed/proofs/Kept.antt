@@ -64,7 +64,7 @@ place-kept s ram file bytes =
     called-kept s ram [] bytes (place-unread s ram file) (place-done s ram file) (place-refuses (decoded s) ram file) (place-says s ram file)
 
 -- a buffer that would have been written
-written-kept : {rows : List Row} {out : List ℕ} {m done : Exported} → Refuses rows inExported (λ n. exported n 0 out) m done → (0 ≡ m .number → ⊥) → m .bytes ≡ out
+pub written-kept : {rows : List Row} {out : List ℕ} {m done : Exported} → Refuses rows inExported (λ n. exported n 0 out) m done → (0 ≡ m .number → ⊥) → m .bytes ≡ out
 written-kept {rows} {out} {m} {done} r some = λ i. kept r (m .number) some refl i .bytes
 
 pub export-kept : (ram out : List ℕ) → (0 ≡ exportBytes ram out .answer / 4294967296 → ⊥) → exportBytes ram out .bytes ≡ out

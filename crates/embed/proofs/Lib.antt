@@ -3,3 +3,4 @@ pub mod Cases
 pub mod Only
 pub mod Kept
 pub mod Left
+pub mod Saves

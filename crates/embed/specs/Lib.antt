@@ -1,2 +1,3 @@
 -- The meaning of the exported functions: what each call answers and leaves.
 pub mod Exports
+pub mod Saves
