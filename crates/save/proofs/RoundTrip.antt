@@ -5,17 +5,20 @@ use mathlib.Core.Logic.{_↔_}
 use mathlib.Core.List.{List, [], _∷_, _++_, append-assoc}
 use Prim.Native.Nat.{ℕ, zero, suc, _+_, _*_, _/_, _%_, _<_, _≤_}
 use native.Mathlib.Omega.{arith}
+use lib.Count.{ones, onesIn}
 use lib.Dec.{eqb}
-use lib.ListN.{length, getD, take, drop, length-append, take-append-drop, drop-of-length-le}
+use lib.ListN.{length, getD, take, drop, replicate, length-replicate, length-append, take-append-drop, drop-of-length-le}
 use lib.Seq.{length-take-le, take-at, drop-at, drop-drop, drop-cons, getD-append-add, getD-take, getD-drop, ext-getD}
 use borrow.Author.Tests.{eqb-true, eq-eqb, le-ltb}
 use Rattle.crc.specs.Crc.{crcOf}
 use Rattle.crc.proofs.Change.{crc-small}
 use Rattle.tiles.specs.Tiles.{Bytes}
-use Rattle.timing.specs.Lent.{ramAllowed}
+use Rattle.timing.specs.Lent.{banksAllowed, ramAllowed}
+use Rattle.timing.specs.Registers.{zeroTo}
 use Rattle.timing.proofs.Lent.{ram-lent}
+use Rattle.controller.specs.State.{leftOver, wrongCapture, cantExist, resetState}
 use Rattle.controller.specs.Table.{lowest}
-use Rattle.layout.specs.Layout.{lowFirst, fourAt}
+use Rattle.layout.specs.Layout.{lowFirst, encoded, isRecord, fourAt, decoded}
 use Rattle.layout.proofs.Inverse.{bytes-back, bytes-of, append-bytes}
 use Rattle.plates.specs.Grey.{exported}
 use Rattle.plates.specs.Placing.{each}
@@ -61,6 +64,22 @@ pub record Allowed (s ram store : List ℕ) : Type 0 where
   pub state-can : isState s ≡ true
   pub ram-can : ramAllowed (length ram) ≡ true
   pub store-can : length store ≡ 16384
+
+-- the reset state with one bank and a frame store of 0 is such
+one-bank : ramAllowed 8192 ≡ true
+unfolding banksAllowed ones onesIn
+one-bank = refl
+
+reset-can : isState (encoded resetState) ≡ true
+unfolding isState isRecord decoded encoded fourAt resetState cantExist leftOver wrongCapture zeroTo
+reset-can = refl
+
+pub worked : Allowed (encoded resetState) (replicate 8192 0) (replicate 16384 0)
+worked = record {
+  state-can = reset-can;
+  ram-can = ap ramAllowed (length-replicate {A = ℕ} 8192 0) ∙ one-bank;
+  store-can = length-replicate {A = ℕ} 16384 0;
+}
 
 cons-bytes : (x : ℕ) (l : List ℕ) → x < 256 → Bytes l → Bytes (x ∷ l)
 cons-bytes x l h b zero = h
