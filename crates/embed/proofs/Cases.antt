@@ -23,8 +23,7 @@ use Rattle.controller.specs.declared.WriteDone.{WriteDone}
 use Rattle.controller.specs.declared.TickDone.{TickDone}
 use Rattle.controller.specs.State.{resetState}
 use Rattle.tiles.specs.Tiles.{Bytes}
-use Rattle.controller.specs.Outcome.{Outcome, outcome, numberOf, readNumber, readValue, readOutcome, writeNumber, writeOutcome, tickNumber, tickValue, tickOutcome, inspection}
-use Rattle.controller.specs.Outcome.{refusal}
+use Rattle.controller.specs.Outcome.{Outcome, outcome, numberOf, readNumber, readValue, readOutcome, writeNumber, writeOutcome, tickNumber, tickValue, tickOutcome, inspection, refusal}
 use Rattle.cartridge.specs.Calls.{readRows, readMeans, writeMeans}
 use Rattle.capture.specs.Calls.{tickMeans}
 use Rattle.controller.specs.Inspect.{inspectMeans}

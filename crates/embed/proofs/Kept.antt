@@ -4,9 +4,8 @@ use mathlib.Core.Bool.{true, false}
 use mathlib.Core.List.{List, []}
 use Prim.Native.Nat.{ℕ, zero, suc, _+_, _*_, _/_, _<_}
 use Rattle.tiles.specs.Tiles.{Bytes}
-use Rattle.controller.specs.Outcome.{Outcome}
+use Rattle.controller.specs.Outcome.{Outcome, refusal}
 use Rattle.controller.specs.Table.{Row, lowest, judged}
-use Rattle.controller.specs.Outcome.{refusal}
 use Rattle.controller.proofs.Refusals.{Refuses, inOutcome}
 use Rattle.cartridge.proofs.Refusals.{write-refuses}
 use Rattle.capture.proofs.Refusals.{tick-refuses}

@@ -11,11 +11,10 @@ use Rattle.laws.proofs.Pick.{pick-ind}
 use Rattle.controller.specs.declared.Controller.{Controller}
 use Rattle.controller.specs.State.{started}
 use Rattle.tiles.specs.Tiles.{Bytes}
-use Rattle.controller.specs.Outcome.{Outcome, Inspection}
+use Rattle.controller.specs.Outcome.{Outcome, Inspection, refusal}
 use Rattle.cartridge.specs.Bus.{registersOn, romRead, byteRead}
 use Rattle.lighting.specs.Light.{byteAt}
 use Rattle.capture.specs.Capture.{Ticking, running, runs, cycle, ticks, from}
-use Rattle.controller.specs.Outcome.{refusal}
 use Rattle.cartridge.specs.Calls.{readMeans, writeMeans}
 use Rattle.capture.specs.Calls.{tickMeans}
 use Rattle.matrix.specs.Matrix.{firstIn}

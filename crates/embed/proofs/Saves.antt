@@ -8,13 +8,13 @@ use Rattle.timing.proofs.Lent.{ram-lent}
 use Rattle.controller.specs.declared.WriteAnswer.{WriteAnswer}
 use Rattle.controller.specs.Outcome.{writeNumber}
 use Rattle.controller.specs.Table.{lowest}
-use Rattle.plates.specs.declared.grey.Output.{Output}
-use Rattle.plates.specs.Grey.{exported, outputNumber, outputValue}
+use Rattle.shades.specs.declared.Output.{Output}
+use Rattle.shades.specs.Shades.{exported, outputNumber, outputValue}
 use Rattle.save.specs.Save.{saveRows, saveMeans}
 use Rattle.save.specs.Restore.{restored, restoreMeans}
 use Rattle.save.proofs.Saved.{save-refuses, save-fits}
 use Rattle.save.proofs.Restored.{restore-refuses}
-use Rattle.embed.specs.Packed.{packed}
+use Rattle.answers.specs.Packed.{packed}
 use Rattle.embed.specs.Exports.{called, filled}
 use Rattle.embed.specs.Saves.{saveBytes, asRestored, restoreBytes}
 use Rattle.embed.proofs.Cases.{kept, written}

@@ -3,7 +3,7 @@ use mathlib.Core.List.{List}
 use Prim.Native.Nat.{ℕ}
 use Rattle.save.specs.Save.{saveMeans}
 use Rattle.save.specs.Restore.{Restored, restoreMeans}
-use Rattle.embed.specs.Packed.{packed}
+use Rattle.answers.specs.Packed.{packed}
 use Rattle.embed.specs.Exports.{Called, called, Filled, asWritten}
 
 -- state, RAM and frame store as one file: the value is its length

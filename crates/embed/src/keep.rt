@@ -1,6 +1,6 @@
 // One save file, for a worker that is stopped and another that goes on.
-use super::answer::done_answer;
-use super::answer::output_answer;
+use answers::done_answer;
+use answers::output_answer;
 use save::reading::restore;
 use save::writing::save;
 ghost use mathlib.Core.Path.{_≡_};

@@ -8,9 +8,8 @@ use Rattle.laws.specs.Pick.{pick}
 use Rattle.laws.specs.Lists.{listed, packed}
 use Rattle.controller.specs.declared.Controller.{Controller}
 use Rattle.controller.specs.declared.Refusal.the-variants.{File}
-use Rattle.controller.specs.Outcome.{Outcome, outcome}
+use Rattle.controller.specs.Outcome.{Outcome, outcome, refusal}
 use Rattle.controller.specs.Table.{Row, row, noState, noRam, someHeld, lowest, judged}
-use Rattle.controller.specs.Outcome.{refusal}
 use Rattle.plates.specs.Grey.{header}
 
 -- a test holds at 0, 1, .. n − 1

@@ -15,11 +15,10 @@ use Rattle.tiles.specs.Picture.{pictureOf}
 use Rattle.matrix.specs.Matrix.{firstIn}
 use Rattle.controller.specs.declared.Refusal.the-variants.{State}
 use Rattle.controller.specs.State.{resetState}
-use Rattle.controller.specs.Outcome.{Outcome}
+use Rattle.controller.specs.Outcome.{Outcome, refusal}
 use Rattle.controller.specs.Table.{Row, row, noState, lowest}
 use Rattle.cartridge.specs.Bus.{byteWritten}
 use Rattle.capture.specs.Capture.{ticks, from}
-use Rattle.controller.specs.Outcome.{refusal}
 use Rattle.cartridge.specs.Calls.{readRows, byteOf, writeRows, wrote}
 use Rattle.capture.specs.Calls.{tickRows, ticked}
 use Rattle.controller.specs.Inspect.{named, inspectRows}

@@ -20,9 +20,9 @@ use Rattle.controller.specs.State.{leftOver, wrongCapture, cantExist, resetStat
 use Rattle.controller.specs.Table.{lowest}
 use Rattle.layout.specs.Layout.{lowFirst, encoded, isRecord, fourAt, decoded}
 use Rattle.layout.proofs.Inverse.{bytes-back, bytes-of, append-bytes}
-use Rattle.plates.specs.Grey.{exported}
-use Rattle.plates.specs.Placing.{each}
-use Rattle.plates.proofs.Each.{each-at}
+use Rattle.shades.specs.Shades.{exported}
+use Rattle.placing.specs.Placing.{each}
+use Rattle.placing.proofs.Each.{each-at}
 use Rattle.save.specs.Save.{magic, bodyOf, saveOf, saveLength, isState, saveRows, saveMeans}
 use Rattle.save.specs.Restore.{ramLengthIn, stateIn, ramIn, storeIn, bodyLengthIn, bodyIn, isSized, hasMagic, isWhole, isSave, restoreRows, restored, restoreMeans}
 use Rattle.save.proofs.Saved.{body-length, state-long, save-refuses}

@@ -16,8 +16,8 @@ use Rattle.controller.specs.Table.{lowest}
 use Rattle.controller.proofs.Refusals.{Refuses, refuses, risingFrom, first-fails}
 use Rattle.layout.specs.Layout.{lowFirst, isRecord, decoded}
 use Rattle.layout.proofs.Inverse.{record-parts}
-use Rattle.plates.specs.Grey.{exported}
-use Rattle.plates.proofs.Exports.{inExported}
+use Rattle.shades.specs.Shades.{exported}
+use Rattle.shades.proofs.Outputs.{inExported}
 use Rattle.save.specs.Save.{magic, bodyOf, saveOf, saveLength, isState, saveRows, saveMeans}
 use Rattle.save.proofs.Put.{Put, put-next}
 

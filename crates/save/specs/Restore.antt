@@ -9,7 +9,7 @@ use Rattle.timing.specs.Lent.{ramAllowed}
 use Rattle.controller.specs.declared.Refusal.the-variants.{State, Ram, File}
 use Rattle.controller.specs.Table.{Row, row, noRam, noFrame, lowest, judged}
 use Rattle.layout.specs.Layout.{fourAt}
-use Rattle.plates.specs.Placing.{each}
+use Rattle.placing.specs.Placing.{each}
 use Rattle.save.specs.Save.{magic, saveLength, isState}
 
 -- the RAM's length, by the number of banks at offset 6

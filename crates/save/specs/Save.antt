@@ -8,7 +8,7 @@ use Rattle.controller.specs.declared.Refusal.the-variants.{State}
 use Rattle.controller.specs.State.{canExist}
 use Rattle.controller.specs.Table.{Row, row, noRam, noFrame, noRoom, lowest, judged}
 use Rattle.layout.specs.Layout.{lowFirst, isRecord, decoded}
-use Rattle.plates.specs.Grey.{Exported, exported}
+use Rattle.shades.specs.Shades.{Exported, exported}
 
 -- the magic: GXSAVE
 unfoldable pub magic : List ℕ

@@ -11,7 +11,7 @@ use controller::judge::no_frame;
 use controller::judge::no_ram;
 use controller::judge::refused_if;
 use crc::crc32;
-use plates::grey::Output;
+use shades::Output;
 ghost use mathlib.Core.Path.{_≡_};
 ghost use mathlib.Core.Bool.{Bool};
 ghost use mathlib.Core.List.{[], _∷_, _++_};
@@ -21,7 +21,7 @@ ghost use lib.ListN.{length, drop};
 ghost use Rattle.controller.specs.Outcome.{verdictNumber};
 ghost use Rattle.controller.specs.Table.{lowest};
 ghost use Rattle.layout.specs.Layout.{lowFirst};
-ghost use Rattle.plates.specs.Grey.{outputNumber, outputValue, exported};
+ghost use Rattle.shades.specs.Shades.{outputNumber, outputValue, exported};
 ghost use Rattle.save.specs.Save.{magic, bodyOf, saveOf, saveLength, saveRows, saveMeans};
 
 // The magic, and the number of the RAM's banks.

@@ -7,8 +7,8 @@ use native.Mathlib.Omega.{arith}
 use lib.Dec.{eqb}
 use lib.ListN.{getD}
 use borrow.Author.Tests.{eq-eqb, ne-eqb}
-use Rattle.plates.specs.Placing.{each}
-use Rattle.plates.proofs.Each.{each-none, each-more, each-fails}
+use Rattle.placing.specs.Placing.{each}
+use Rattle.placing.proofs.Each.{each-none, each-more, each-fails}
 use Rattle.save.specs.Save.{magic}
 use Rattle.save.specs.Restore.{hasMagic}
 use Rattle.save.proofs.reading.has_magic.Statement.{statement}

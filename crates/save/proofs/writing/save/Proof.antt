@@ -4,7 +4,7 @@ use native.Mathlib.Omega.{arith}
 use borrow.Author.Needs.{needs}
 use lib.ListN.{length}
 use Rattle.controller.proofs.Refusals.{by-why, by-fits, fits-none}
-use Rattle.plates.specs.Grey.{exported}
+use Rattle.shades.specs.Shades.{exported}
 use Rattle.save.specs.Save.{saveLength}
 use Rattle.save.proofs.Saved.{Lengths, save-refuses, save-fits, fit-lengths}
 use Rattle.save.proofs.writing.save.Statement.{statement}
