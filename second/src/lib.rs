@@ -5,13 +5,15 @@
 //! [`Frame::write_line`] writes its lines and [`salvage()`] cleans it. [`export`] makes a grey image of
 //! the picture area, [`place`] puts one back and [`shades`] reads the area; [`export_readings`] makes a
 //! grey image of the values before the dots, and [`import`] an image of a colour photograph.
-//! [`choose`] sets a contrast level by its number.
+//! [`choose`] sets a contrast level by its number. [`save()`] and [`restore`] have state, RAM and frame store
+//! as one file, with a checksum, [`crc32`].
 
 #![forbid(unsafe_code)]
 
 mod bus;
 mod capture;
 mod colour;
+mod crc;
 mod desk;
 mod grey;
 mod levels;
@@ -19,6 +21,7 @@ mod lines;
 mod picture;
 mod refusal;
 mod salvage;
+mod save;
 mod script;
 mod state;
 #[cfg(test)]
@@ -27,6 +30,7 @@ mod tests;
 pub use bus::{inspect, read, tick, write, Element};
 pub use capture::Timing;
 pub use colour::import;
+pub use crc::crc32;
 pub use desk::choose;
 pub use grey::{export, export_readings, place, shades, GREY_FILE_BYTES};
 pub use levels::CONTRAST_LEVELS;
@@ -36,6 +40,7 @@ pub use picture::{
 };
 pub use refusal::Refusal;
 pub use salvage::{salvage, Salvaged, LONGEST_SCRIPT};
+pub use save::{restore, save, SAVE_BYTES};
 pub use script::{Frame, Session};
 pub use state::{State, LAYOUT, RECORD_BYTES, REGISTERS};
 

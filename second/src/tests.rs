@@ -10,5 +10,6 @@ mod lines;
 mod random;
 mod readings;
 mod salvage;
+mod saves;
 mod slow;
 mod written;
