@@ -5,7 +5,9 @@
  *
  * The finished picture must be the one of the first image under the first registers.
  */
+#define _POSIX_C_SOURCE 200809L
 #include "gulxinett.h"
+#include "whole.h"
 
 #include <stdio.h>
 #include <stdlib.h>
@@ -17,6 +19,9 @@ enum { HALF = 22623, TOTAL = 45246, TRIGGER = 0xA000 };
 static uint8_t state[GULXINETT_STATE_LEN];
 static uint8_t ram[GULXINETT_RAM_BANK_LEN];
 static uint8_t store[GULXINETT_FRAME_LEN];
+
+/* The three as one file; of what is read one byte more has room, so that a longer file is seen. */
+static uint8_t save[GULXINETT_SAVE_LEN + GULXINETT_RAM_BANK_LEN + 1];
 
 /* The scene the camera is pointed at. */
 static uint8_t image[GULXINETT_FRAME_LEN];
@@ -101,9 +106,9 @@ static void begin(const char *path)
     bus_write(TRIGGER, registers[0] & 6);
     if (run(1000000) != 0)
         fail("a stopped capture ran on");
-    FILE *file = fopen(path, "wb");
-    if (!file || fwrite(state, sizeof state, 1, file) != 1 || fwrite(ram, sizeof ram, 1, file) != 1 ||
-        fwrite(store, sizeof store, 1, file) != 1 || fclose(file) != 0)
+    uint32_t length = accepted(gulxinett_save(state, sizeof state, ram, sizeof ram, store, sizeof store,
+                                              save, sizeof save));
+    if (write_whole(path, save, length) != 0)
         fail("the file can't be written");
     printf("begin: a capture ran %d of %d cycles and was stopped\n", HALF, TOTAL);
     printf("begin: state, RAM and frame store saved\n");
@@ -112,13 +117,12 @@ static void begin(const char *path)
 static void finish(const char *path)
 {
     FILE *file = fopen(path, "rb");
-    if (!file || fread(state, sizeof state, 1, file) != 1)
+    if (!file)
         fail("the file can't be read");
-    if (state[0] != GULXINETT_LAYOUT)
-        fail("the state is of another layout than this program reads: another version saved it");
-    if (fread(ram, sizeof ram, 1, file) != 1 ||
-        fread(store, sizeof store, 1, file) != 1 || fgetc(file) != EOF || fclose(file) != 0)
+    size_t length = fread(save, 1, sizeof save, file);
+    if (ferror(file) || fclose(file) != 0)
         fail("the file can't be read");
+    accepted(gulxinett_restore(save, length, state, sizeof state, ram, sizeof ram, store, sizeof store));
     uint8_t registers[GULXINETT_REGISTERS_LEN], others[GULXINETT_REGISTERS_LEN];
     uint8_t wanted[GULXINETT_PICTURE_LEN], unwanted[GULXINETT_PICTURE_LEN];
     const uint8_t *plate = ram + GULXINETT_PICTURE_OFFSET;

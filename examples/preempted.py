@@ -10,7 +10,7 @@ import sys
 from pathlib import Path
 
 sys.path.insert(0, str(Path(__file__).resolve().parents[1] / "bindings" / "python"))
-from gulxinett import FRAME_BYTES, PICTURE_BYTES, RAM_BANK, REGISTERS, Cartridge, Refusal, Save, picture
+from gulxinett import PICTURE_BYTES, RAM_BANK, REGISTERS, Cartridge, Refusal, picture, write_whole
 
 TRIGGER = 0xA000
 TOTAL = 45_246
@@ -51,22 +51,13 @@ def begin(path):
     ensure(cartridge.tick(HALF) == HALF, "the capture did not run half way")
     cartridge.write(TRIGGER, FIRST_REGISTERS[0] & 6)
     ensure(cartridge.tick(1_000_000) == 0, "a stopped capture ran on")
-    Path(path).write_bytes(b"".join(cartridge.save()))
+    write_whole(path, cartridge.save())
     print("begin: a capture ran %d of %d cycles and was stopped" % (HALF, TOTAL))
     print("begin: state, RAM and frame store saved")
 
 
-def loaded(path):
-    """A cartridge from the file: state, RAM and frame store, one after the other."""
-    saved = Path(path).read_bytes()
-    state = len(saved) - RAM_BANK - FRAME_BYTES
-    ensure(state > 0, "the file has another size")
-    memory = saved[state:]
-    return Cartridge.restore(Save(saved[:state], memory[:RAM_BANK], memory[RAM_BANK:]))
-
-
 def finish(path):
-    cartridge = loaded(path)
+    cartridge = Cartridge.restore(Path(path).read_bytes())
     wanted = picture(FIRST_IMAGE, FIRST_REGISTERS)
     ensure(cartridge.area() != wanted, "the picture was whole before the capture ended")
     cartridge.lend(SECOND_IMAGE)

@@ -27,7 +27,7 @@
  *
  *   1  the state record can't exist
  *   2  the ROM length is not allowed (16,384 times 1, 2, 4, 8, 16, 32 or 64)
- *   3  the RAM length is not allowed (8,192 times 1, 2, 4, 8 or 16)
+ *   3  the RAM length is not allowed (8,192 times 1, 2, 4, 8 or 16), or not that of the save restored
  *   4  the image or the frame store is not 16,384 bytes
  *   5  the address is outside 0000-7FFF and A000-BFFF
  *   6  an image row is above 7F or not 128 bytes, so no script line says it
@@ -71,6 +71,16 @@ extern "C" {
  * aarch64 or for the browser. No function here recurs, and what is large is lent; tests/stack works
  * the need of each function out from the compiled frames. */
 #define GULXINETT_STACK 8192
+
+/* A save has its RAM's length and SAVE_LEN bytes more: the magic, the RAM's banks, the state record from
+ * SAVE_STATE_OFFSET on, the RAM from SAVE_RAM_OFFSET on, the frame store, the CRC-32. The largest RAM
+ * makes the largest save. docs/LAYOUT.md has the table. */
+#define GULXINETT_SAVE_MAGIC "GXSAVE"
+#define GULXINETT_SAVE_BANKS_OFFSET 6
+#define GULXINETT_SAVE_STATE_OFFSET 7
+#define GULXINETT_SAVE_RAM_OFFSET 128
+#define GULXINETT_SAVE_LEN 16516
+#define GULXINETT_SAVE_LARGEST 147588
 
 /* The layout of the state record, and where in it the two counts of captures stand. */
 #define GULXINETT_LAYOUT 3
@@ -192,6 +202,24 @@ uint64_t gulxinett_import_photo(const uint8_t *file, size_t file_len,
 uint64_t gulxinett_salvage(const uint8_t *script, size_t script_len,
                            uint8_t *text, size_t text_len,
                            uint8_t *report, size_t report_len);
+
+/* Writes state, RAM and frame store of one moment as one file, with a CRC-32 over all of it; bytes
+ * beyond stay. Refused as 1, 3, 4, then as 7 if out_len is smaller than GULXINETT_SAVE_LEN + ram_len.
+ * Value: that length. */
+uint64_t gulxinett_save(const uint8_t *state, size_t state_len,
+                        const uint8_t *ram, size_t ram_len,
+                        const uint8_t *store, size_t store_len,
+                        uint8_t *out, size_t out_len);
+
+/* Reads such a file back into the three; what they held is not looked at. Refused as 1 if state_len is
+ * not 121, as 3 also if the file is a save whose RAM has another length than ram_len, as 4, then as 8 if
+ * the file is not exactly one that gulxinett_save writes: cut, damaged in any bit, or of another layout.
+ * So ram_len is file_len - GULXINETT_SAVE_LEN where that is an allowed length, and any allowed one
+ * where it is not. Value 0. */
+uint64_t gulxinett_restore(const uint8_t *file, size_t file_len,
+                           uint8_t *state, size_t state_len,
+                           uint8_t *ram, size_t ram_len,
+                           uint8_t *store, size_t store_len);
 
 #ifdef __cplusplus
 }

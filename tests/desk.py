@@ -36,7 +36,7 @@ def chosen(matrix, dithering):
 
 
 def registers_of(cartridge):
-    return cartridge.save().state[13:67]
+    return cartridge.parts().state[13:67]
 
 
 def every_choice(matrices):

@@ -7,7 +7,7 @@ import sys
 from pathlib import Path
 
 sys.path.insert(0, str(Path(__file__).resolve().parents[1] / "bindings" / "python"))
-from gulxinett import FRAME_BYTES, PICTURE_BYTES, PLATE_BYTES, RAM_BANK, REGISTERS, STATE_BYTES, Cartridge, Refusal
+from gulxinett import FRAME_BYTES, PICTURE_BYTES, PLATE_BYTES, REGISTERS, Cartridge, Refusal, write_whole
 
 TRIGGER = 0xA000
 AREA = 0xA100
@@ -159,21 +159,14 @@ class Session:
             sys.exit("session.py: the bytes read are not the plate")
 
 
-def restored(path):
-    """The cartridge of a file: state, RAM and frame store, one after the other."""
-    saved = path.read_bytes()
-    store = STATE_BYTES + RAM_BANK
-    return Cartridge.restore((saved[:STATE_BYTES], saved[STATE_BYTES:store], saved[store:]))
-
-
 def main(save, out, seed, steps, plate=None):
     save = Path(save)
-    session = Session(restored(save) if save.exists() else Cartridge(), int(seed))
+    session = Session(Cartridge.restore(save.read_bytes()) if save.exists() else Cartridge(), int(seed))
     for _ in range(int(steps)):
         session.step()
     if plate:
         session.read_out()
-    save.write_bytes(b"".join(session.cartridge.save()))
+    write_whole(save, session.cartridge.save())
     Path(out + ".script").write_bytes(session.cartridge.recording())
     Path(out + ".answers").write_text("".join(answer + "\n" for answer in session.answers))
 

@@ -4,8 +4,7 @@
 //! usage: session SAVE OUT SEED STEPS [plate]; session.mjs has what the words mean
 
 use gulxinett::{
-    Cartridge, Choice, Refusal, Save, FRAME_BYTES, PICTURE_BYTES, PLATE_BYTES, RAM_BANK, REGISTERS,
-    STATE_BYTES,
+    write_whole, Cartridge, Choice, Refusal, FRAME_BYTES, PICTURE_BYTES, PLATE_BYTES, REGISTERS,
 };
 use std::error::Error;
 use std::fs;
@@ -220,15 +219,6 @@ impl Session {
     }
 }
 
-/// The cartridge of a file: state, RAM and frame store, one after the other.
-fn restored(path: &Path) -> Result<Cartridge, Box<dyn Error>> {
-    let saved = fs::read(path)?;
-    let (state, memory) = saved.split_at(STATE_BYTES);
-    let (ram, store) = memory.split_at(RAM_BANK);
-    let [state, ram, store] = [state, ram, store].map(<[u8]>::to_vec);
-    Ok(Cartridge::restore(Save { state, ram, store })?)
-}
-
 fn main() -> Result<(), Box<dyn Error>> {
     let words: Vec<String> = std::env::args().skip(1).collect();
     let [save, out, seed, steps, plate @ ..] = &words[..] else {
@@ -236,7 +226,7 @@ fn main() -> Result<(), Box<dyn Error>> {
     };
     let save = Path::new(save);
     let cartridge = if save.exists() {
-        restored(save)?
+        Cartridge::restore(&fs::read(save)?)?
     } else {
         Cartridge::default()
     };
@@ -247,8 +237,7 @@ fn main() -> Result<(), Box<dyn Error>> {
     if !plate.is_empty() {
         session.read_out();
     }
-    let Save { state, ram, store } = session.cartridge.save();
-    fs::write(save, [state, ram, store].concat())?;
+    write_whole(save, &session.cartridge.save())?;
     fs::write(format!("{out}.script"), session.cartridge.recording())?;
     let answers = session.answers.iter().map(|answer| format!("{answer}\n"));
     fs::write(format!("{out}.answers"), answers.collect::<String>())?;

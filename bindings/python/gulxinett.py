@@ -35,6 +35,8 @@ PICTURE_OFFSET = 0x100
 PLATE_BYTES = 14_351
 #: Bytes of a plate as shades: one for each of its pixels, 0 white to 3 black.
 SHADES_BYTES = 14_336
+#: Bytes of a save file besides its RAM.
+SAVE_BYTES = 16_516
 #: The most bytes of a script that is salvaged.
 SCRIPT_BYTES = 32_768
 
@@ -50,6 +52,8 @@ _ENDED_OFFSET = 11
 _REGISTERS_OFFSET = 13
 # Bytes of the state record of layout 1, which had no number and began with a flag.
 _FIRST_LAYOUT_BYTES = 116
+# The lengths that a RAM can have.
+_RAM_LENGTHS = tuple(RAM_BANK * banks for banks in (1, 2, 4, 8, 16))
 # Bytes of a row of the image.
 _ROW_BYTES = 128
 # Bytes of the longest line of a script, that of a row, with its LF.
@@ -93,6 +97,8 @@ _FUNCTIONS = {
     "readings": _LENT * 3,
     "import_photo": _LENT * 2,
     "salvage": _LENT * 3,
+    "save": _LENT * 4,
+    "restore": _LENT * 4,
 }
 
 
@@ -108,8 +114,8 @@ class Refusal(Exception):
         return Refusal, (self.number, str(self))
 
 
-class Save(NamedTuple):
-    """All that a cartridge needs to go on elsewhere; the ROM is brought by whoever goes on.
+class Parts(NamedTuple):
+    """What a save has, in loose pieces; the ROM is no part of it.
 
     The frame store is the image of the last start, lit under the registers it took.
     """
@@ -250,6 +256,30 @@ def salvage(script):
     return Salvaged(bytes(text[:length]), bytes(report[:lines]))
 
 
+def write_whole(path, data):
+    """Writes a file so that a kill at any moment leaves the old one or the new one, whole: beside it, flushed to the disk,
+    then renamed over it. What a kill leaves beside it, `.PROCESS.part` after its name, may be removed."""
+    path = os.fspath(path)
+    beside = "%s.%d.part" % (os.fsdecode(path), os.getpid())
+    try:
+        with open(beside, "wb") as file:
+            file.write(data)
+            file.flush()
+            os.fsync(file.fileno())
+        os.replace(beside, path)
+    except BaseException:
+        if os.path.exists(beside):
+            os.remove(beside)
+        raise
+    if os.name == "posix":
+        # so that the disk knows the new name
+        folder = os.open(os.path.dirname(path) or os.curdir, os.O_RDONLY)
+        try:
+            os.fsync(folder)
+        finally:
+            os.close(folder)
+
+
 class _Recorder:
     """What was done to a cartridge, as the lines of a script, and what they tell of the image."""
 
@@ -326,15 +356,32 @@ class Cartridge:
             raise _of_its_layout(refusal, self._state) from None
 
     @classmethod
-    def restore(cls, save, rom=None):
-        """A cartridge that goes on from a save, made here or in another language."""
+    def restore(cls, file, rom=None):
+        """A cartridge that goes on from a save file, made here or in another language; refused as 8 if it is not exactly
+        one."""
+        file = _memory("the save", file)
+        rest = len(file) - SAVE_BYTES
+        ram = (ctypes.c_ubyte * (rest if rest in _RAM_LENGTHS else RAM_BANK))()
+        state, store = (ctypes.c_ubyte * STATE_BYTES)(), (ctypes.c_ubyte * FRAME_BYTES)()
+        _call("restore", *_lent(file, state, ram, store))
+        return cls(rom=rom, state=state, ram=ram, store=store)
+
+    @classmethod
+    def from_parts(cls, parts, rom=None):
+        """A cartridge that goes on from loose pieces."""
         try:
-            save = Save(*save)
+            parts = Parts(*parts)
         except TypeError:
-            raise TypeError("a save must have state, ram and store") from None
-        for part, value in save._asdict().items():
+            raise TypeError("the parts must be state, ram and store") from None
+        for part, value in parts._asdict().items():
             _memory("the save's " + part, value)
-        return cls(rom=rom, **save._asdict())
+        return cls(rom=rom, **parts._asdict())
+
+    @classmethod
+    def from_battery(cls, ram, rom=None):
+        """A cartridge as after reset over a battery save of another emulator, which is the RAM as it is: 131,072 bytes of a
+        real cartridge."""
+        return cls(rom=rom, ram=_memory("the battery save", ram))
 
     def _open(self):
         if self._closed:
@@ -478,9 +525,22 @@ class Cartridge:
         return bytes(file)
 
     def save(self):
-        """Copies of state, RAM and frame store."""
+        """State, RAM and frame store as one save file, with a checksum over all of it; `write_whole` puts it in its place
+        whole."""
         self._open()
-        return Save(bytes(self._state), bytes(self._ram), bytes(self._store))
+        file = (ctypes.c_ubyte * (SAVE_BYTES + len(self._ram)))()
+        _call("save", *_lent(self._state, self._ram, self._store, file))
+        return bytes(file)
+
+    def parts(self):
+        """Copies of state, RAM and frame store, in loose pieces."""
+        self._open()
+        return Parts(bytes(self._state), bytes(self._ram), bytes(self._store))
+
+    def battery(self):
+        """A copy of the RAM as it is, which is the battery save that other emulators read."""
+        self._open()
+        return bytes(self._ram)
 
     def close(self):
         """Gives the memory back; every later call but this one is an error."""

@@ -41,7 +41,7 @@ def begun(number):
 
 def whole(cartridge):
     """What a cartridge is, all of it."""
-    return cartridge.save(), cartridge.picture()
+    return cartridge.parts(), cartridge.picture()
 
 
 def row_lines(image, rows):
@@ -123,16 +123,16 @@ class Recording(unittest.TestCase):
         cartridge = begun(1)
         cartridge.write(0x4000, 0x05)
         cartridge.tick(20_000)
-        before = cartridge.save()
+        before = cartridge.parts()
         cartridge.record()
         cartridge.lend(frame(1))
         start = len(cartridge.recording())
         cartridge.choose(light=1, level=7)
-        low, state = b"\x8c\x98\xac", cartridge.save().state
+        low, state = b"\x8c\x98\xac", cartridge.parts().state
         self.assertEqual((state[15:17], state[19:22]), (b"\x10\x00", low))
         kept = [place for place in range(STATE_BYTES) if place not in (15, 16) and not 19 <= place < 67]
         self.assertEqual([state[place] for place in kept], [before.state[place] for place in kept])
-        self.assertEqual(cartridge.save(), before._replace(state=state))
+        self.assertEqual(cartridge.parts(), before._replace(state=state))
         writes = [(0x4000, 0x10)] + [(0xA000 + n, state[13 + n]) for n in (2, 3, *range(6, 54))] + [(0x4000, 0x05)]
         due = b"".join(b"02%04X%02X\n" % write for write in writes)
         self.assertEqual(cartridge.recording()[start:], due)
@@ -148,10 +148,10 @@ class Recording(unittest.TestCase):
             cartridge.choose(light=0, level=0, exposure=65536)
         with self.assertRaisesRegex(TypeError, "dithering must be True or False"):
             cartridge.choose(light=0, level=0, dithering=0)
-        self.assertEqual(cartridge.save(), before._replace(state=state))
+        self.assertEqual(cartridge.parts(), before._replace(state=state))
         self.assertEqual(cartridge.recording()[start:], due)
         cartridge.choose(light=1, level=7, dithering=False, exposure=0x1234)
-        plain = cartridge.save().state
+        plain = cartridge.parts().state
         self.assertEqual((plain[15:17], plain[19:67]), (b"\x12\x34", low * 16))
         self.assertIsNone(cartridge.inspect())
         self.assertEqual(cartridge.tick(0xFFFF_FFFF), TOTAL - 20_000)
@@ -162,15 +162,15 @@ class Recording(unittest.TestCase):
             cartridge = Cartridge()
             cartridge.write(0x4000, select)
             cartridge.write(0x0000, enable)
-            before = cartridge.save()
+            before = cartridge.parts()
             cartridge.record()
             cartridge.place(plate(1))
             self.assertRaises(Refusal, cartridge.place, plate(1)[1:])
             self.assertEqual(cartridge.recording(), place_lines(cartridge.area(), select, enable))
-            self.assertEqual(cartridge.save().state, before.state)
+            self.assertEqual(cartridge.parts().state, before.state)
 
     def test_an_image_that_a_script_does_not_begin_with_is_told_before_a_write(self):
-        restored, lent = Cartridge.restore(Cartridge().save()), Cartridge()
+        restored, lent = Cartridge.from_parts(Cartridge().parts()), Cartridge()
         lent.lend(frame(1))
         for cartridge, image in ((restored, bytes(FRAME_BYTES)), (lent, frame(1))):
             cartridge.record()
@@ -234,7 +234,7 @@ class Calls(unittest.TestCase):
             cartridge.write(0x4000, 0x10)
             cartridge.write(0xA006 + 3 * 7, 1)
             self.assertEqual(cartridge.inspect(), gulxinett.Element(row=1, column=3))
-            self.assertEqual(Cartridge.restore(cartridge.save(), rom=rom).read(0x4000), 0xA5)
+            self.assertEqual(Cartridge.from_parts(cartridge.parts(), rom=rom).read(0x4000), 0xA5)
             cartridge.reset()
             self.assertIsNone(cartridge.inspect())
             self.assertEqual(cartridge.area(), b"\x01" * PICTURE_BYTES)
@@ -244,8 +244,8 @@ class Calls(unittest.TestCase):
         self.assertEqual(one.picture(), picture(frame(1), TAKEN))
         self.assertNotEqual(one.picture(), one.picture(frame(2)))
         self.assertEqual(one.tick(TOTAL // 2), TOTAL // 2)
-        other = Cartridge.restore(one.save())
-        self.assertEqual(other.save(), one.save())
+        other = Cartridge.from_parts(one.parts())
+        self.assertEqual(other.parts(), one.parts())
         for cartridge in (one, other):
             self.assertNotEqual(cartridge.area(), picture(frame(1), TAKEN))
             self.assertEqual(cartridge.tick(0xFFFF_FFFF), TOTAL - TOTAL // 2)
@@ -269,11 +269,11 @@ class Calls(unittest.TestCase):
         cartridge.tick(0xFFFF_FFFF)
         file, area = cartridge.plate(), cartridge.area()
         other = Cartridge(ram=b"\x33" * (16 * RAM_BANK))
-        due = other.save()
+        due = other.parts()
         other.place(bytearray(file))
         self.assertEqual((other.area(), other.plate()), (area, file))
         # what is placed is all that has changed
-        self.assertEqual(other.save(), due._replace(ram=due.ram[:0x100] + area + due.ram[0xF00:]))
+        self.assertEqual(other.parts(), due._replace(ram=due.ram[:0x100] + area + due.ram[0xF00:]))
         for number in (1, 2, 3):
             other.place(plate(number))
             self.assertEqual(other.plate(), plate(number))
@@ -317,7 +317,7 @@ class Calls(unittest.TestCase):
         for inverted, value in ((0, 207), (8, 48)):
             for address, byte in ((0x4000, 0x10), (0xA002, 1), (0xA004, inverted), (0xA000, 3)):
                 cartridge.write(address, byte)
-            self.assertEqual(cartridge.save().store, bytes([value]) * FRAME_BYTES)
+            self.assertEqual(cartridge.parts().store, bytes([value]) * FRAME_BYTES)
             self.assertEqual(cartridge.readings()[15:], bytes([value]) * SHADES_BYTES)
             cartridge.tick(0xFFFF_FFFF)
 
@@ -419,30 +419,30 @@ class BadInput(unittest.TestCase):
         with self.assertRaisesRegex(TypeError, "the RAM must be bytes, not int"):
             Cartridge(ram=8192)
 
-    def test_saves(self):
+    def test_parts(self):
         cartridge = begun(4)
         cartridge.tick(20_000)
-        before = cartridge.save()
+        before = cartridge.parts()
         save = before
         for length in (0, 1, STATE_BYTES - 1):
-            self.refused(1, Cartridge.restore, save._replace(state=save.state[:length]))
-        self.refused(1, Cartridge.restore, save._replace(state=save.state + b"\0"))
+            self.refused(1, Cartridge.from_parts, save._replace(state=save.state[:length]))
+        self.refused(1, Cartridge.from_parts, save._replace(state=save.state + b"\0"))
         for place, byte in ((0, 1), (1, 2), (2, 64), (3, 32), (4, 0), (4, 2), (8, 255), (13, 8)):
             state = bytearray(save.state)
             state[place] = byte
-            self.refused(1, Cartridge.restore, save._replace(state=state))
+            self.refused(1, Cartridge.from_parts, save._replace(state=state))
         for length in (0, RAM_BANK - 1, 3 * RAM_BANK):
-            self.refused(3, Cartridge.restore, save._replace(ram=bytes(length)))
+            self.refused(3, Cartridge.from_parts, save._replace(ram=bytes(length)))
         for length in (0, FRAME_BYTES - 1, FRAME_BYTES + 1):
-            self.refused(4, Cartridge.restore, save._replace(store=bytes(length)))
-        self.refused(2, Cartridge.restore, save, rom=b"short")
+            self.refused(4, Cartridge.from_parts, save._replace(store=bytes(length)))
+        self.refused(2, Cartridge.from_parts, save, rom=b"short")
         for part in save._fields:
             with self.assertRaisesRegex(TypeError, "the save's %s must be bytes, not NoneType" % part):
-                Cartridge.restore(save._replace(**{part: None}))
+                Cartridge.from_parts(save._replace(**{part: None}))
         for none in (None, 7, save[:2], ()):
-            with self.assertRaisesRegex(TypeError, "a save must have state, ram and store"):
-                Cartridge.restore(none)
-        self.assertEqual((save, cartridge.save()), (before, before))
+            with self.assertRaisesRegex(TypeError, "the parts must be state, ram and store"):
+                Cartridge.from_parts(none)
+        self.assertEqual((save, cartridge.parts()), (before, before))
 
     def test_counts(self):
         cartridge = Cartridge()
@@ -457,10 +457,10 @@ class BadInput(unittest.TestCase):
             cartridge.write(0xA000, 1)
             cartridge.tick(1_000_000)
             self.assertEqual((cartridge.started, cartridge.ended), (serial, serial))
-        save = cartridge.save()
+        save = cartridge.parts()
         state = bytearray(save.state)
         state[9:13] = b"\xff\xff\xfe\xff"
-        worn = Cartridge.restore(save._replace(state=state))
+        worn = Cartridge.from_parts(save._replace(state=state))
         self.assertEqual((worn.started, worn.ended), (0xFFFF, 0xFFFE))
         worn.write(0xA000, 1)
         worn.tick(1_000_000)
@@ -471,7 +471,7 @@ class BadInput(unittest.TestCase):
     def test_layouts(self):
         cartridge = begun(4)
         cartridge.tick(20_000)
-        save = cartridge.save()
+        save = cartridge.parts()
         self.assertEqual((LAYOUT, layout_of(save.state)), (3, 3))
         first, second = ((ROOT / "tests/data" / name).read_bytes() for name in ("layout-1.state", "layout-2.state"))
         # each is of a capture half way
@@ -481,12 +481,12 @@ class BadInput(unittest.TestCase):
             self.assertEqual(layout_of(state), layout)
             sentence = "the state is of layout %d, and this program reads layout %d: another version saved it"
             with self.assertRaisesRegex(Refusal, sentence % (layout, LAYOUT)) as caught:
-                Cartridge.restore(save._replace(state=state))
+                Cartridge.from_parts(save._replace(state=state))
             self.assertEqual(caught.exception.number, 1)
         for none in (b"", b"\0", b"\1" * STATE_BYTES):
             self.assertIsNone(layout_of(none))
             with self.assertRaisesRegex(Refusal, "the state record can't exist"):
-                Cartridge.restore(save._replace(state=none))
+                Cartridge.from_parts(save._replace(state=none))
 
     def test_closed(self):
         cartridge, other = begun(5), begun(6)
@@ -496,7 +496,7 @@ class BadInput(unittest.TestCase):
         uses = {
             "reset": (), "read": (0,), "write": (0xA000, 0), "tick": (1,), "inspect": (), "lend": (frame(1),), "lend_photo": (b"",),
             "choose": {"light": 0, "level": 0}, "picture": (), "area": (), "plate": (), "place": (b"",), "shades": (), "readings": (),
-            "save": (), "record": (), "recording": (),
+            "save": (), "parts": (), "battery": (), "record": (), "recording": (),
         }
         for name, words in uses.items():
             with self.assertRaisesRegex(ValueError, "the cartridge is closed"):
@@ -509,7 +509,7 @@ class BadInput(unittest.TestCase):
                 pass
         self.assertEqual(whole(other), before)
         methods = {name for name in vars(Cartridge) if not name.startswith("_")}
-        self.assertEqual(methods, {"close", "restore", "started", "ended", *uses})
+        self.assertEqual(methods, {"close", "restore", "from_parts", "from_battery", "started", "ended", *uses})
 
 
 class Finding(unittest.TestCase):

@@ -240,3 +240,39 @@ pub fn salvage(script: &[u8], text: &mut [u8], report: &mut [u8]) -> Answer {
         )
     })
 }
+
+/// Writes state, RAM and frame store as one save file; the value is its length, [`SAVE_BYTES`](crate::SAVE_BYTES)
+/// and the RAM's. Bytes of `out` beyond it stay, and a shorter `out` is refused as [`Refusal::Room`].
+pub fn save(state: &[u8], ram: &[u8], store: &[u8], out: &mut [u8]) -> Answer {
+    // SAFETY: each pointer and length are those of one slice, and the mutable one is apart.
+    Answer(unsafe {
+        ffi::gulxinett_save(
+            state.as_ptr(),
+            state.len(),
+            ram.as_ptr(),
+            ram.len(),
+            store.as_ptr(),
+            store.len(),
+            out.as_mut_ptr(),
+            out.len(),
+        )
+    })
+}
+
+/// Reads a save file into state, RAM and frame store; the value is 0. A RAM of another length than the
+/// file's is refused as [`Refusal::Ram`], and what is not exactly a save as [`Refusal::File`].
+pub fn restore(file: &[u8], state: &mut [u8], ram: &mut [u8], store: &mut [u8]) -> Answer {
+    // SAFETY: each pointer and length are those of one slice, and the mutable ones are apart.
+    Answer(unsafe {
+        ffi::gulxinett_restore(
+            file.as_ptr(),
+            file.len(),
+            state.as_mut_ptr(),
+            state.len(),
+            ram.as_mut_ptr(),
+            ram.len(),
+            store.as_mut_ptr(),
+            store.len(),
+        )
+    })
+}

@@ -3,7 +3,8 @@
 use crate::recorder::Recorder;
 use crate::{
     bytes, choose, inspect, picture, read, reset, tick, write, Choice, Element, Refusal, State,
-    FRAME_BYTES, PICTURE_BYTES, PICTURE_OFFSET, PLATE_BYTES, RAM_BANK, ROM_BANK, SHADES_BYTES,
+    FRAME_BYTES, PICTURE_BYTES, PICTURE_OFFSET, PLATE_BYTES, RAM_BANK, ROM_BANK, SAVE_BYTES,
+    SHADES_BYTES, STATE_BYTES,
 };
 
 /// State, ROM, RAM, frame store and the image lent. Dropping it is closing it.
@@ -19,9 +20,9 @@ pub struct Cartridge {
     recorder: Option<Recorder>,
 }
 
-/// All that a cartridge needs to go on elsewhere; the ROM is brought by whoever goes on.
+/// What a save has, in loose pieces; the ROM is no part of it.
 #[derive(Clone, Debug, PartialEq, Eq)]
-pub struct Save {
+pub struct Parts {
     /// The state record's bytes.
     pub state: Vec<u8>,
     /// The RAM.
@@ -56,21 +57,41 @@ impl Cartridge {
         .judged()
     }
 
-    /// A cartridge that goes on from a save, made here or in another language, with one bank of
-    /// ROM full of FF.
-    pub fn restore(save: Save) -> Result<Self, Refusal> {
-        Cartridge::restore_with(save, vec![0xFF; ROM_BANK])
+    /// A cartridge as after reset over a battery save of another emulator, which is the RAM as it is: 131,072
+    /// bytes of a real cartridge. Its ROM is one bank full of FF; [`Cartridge::new`] takes another.
+    pub fn from_battery(ram: Vec<u8>) -> Result<Self, Refusal> {
+        Cartridge::new(vec![0xFF; ROM_BANK], ram)
     }
 
-    /// A cartridge that goes on from a save with this ROM.
-    pub fn restore_with(save: Save, rom: Vec<u8>) -> Result<Self, Refusal> {
-        let record = save.state.as_slice().try_into().ok();
-        let no_record = || Refusal::of_no_record(&save.state);
+    /// A cartridge that goes on from a save file, made here or in another language, with one bank of
+    /// ROM full of FF. What is not exactly a save is refused as [`Refusal::File`].
+    pub fn restore(file: &[u8]) -> Result<Self, Refusal> {
+        Cartridge::restore_with(file, vec![0xFF; ROM_BANK])
+    }
+
+    /// A cartridge that goes on from a save file with this ROM.
+    pub fn restore_with(file: &[u8], rom: Vec<u8>) -> Result<Self, Refusal> {
+        let mut state = vec![0; STATE_BYTES];
+        let mut ram = vec![0; ram_bytes(file)];
+        let mut store = vec![0; FRAME_BYTES];
+        bytes::restore(file, &mut state, &mut ram, &mut store).result()?;
+        Cartridge::from_parts_with(Parts { state, ram, store }, rom)
+    }
+
+    /// A cartridge that goes on from loose pieces, with one bank of ROM full of FF.
+    pub fn from_parts(parts: Parts) -> Result<Self, Refusal> {
+        Cartridge::from_parts_with(parts, vec![0xFF; ROM_BANK])
+    }
+
+    /// A cartridge that goes on from loose pieces with this ROM.
+    pub fn from_parts_with(parts: Parts, rom: Vec<u8>) -> Result<Self, Refusal> {
+        let record = parts.state.as_slice().try_into().ok();
+        let no_record = || Refusal::of_no_record(&parts.state);
         Cartridge {
             state: record.and_then(State::decode).ok_or_else(no_record)?,
             rom,
-            ram: save.ram,
-            store: save.store,
+            ram: parts.ram,
+            store: parts.store,
             image_untouched: false,
             ..Cartridge::default()
         }
@@ -249,12 +270,36 @@ impl Cartridge {
         &self.state
     }
 
-    /// Copies of state, RAM and frame store.
-    pub fn save(&self) -> Save {
-        Save {
+    /// State, RAM and frame store as one save file, with a checksum over all of it; [`write_whole`](crate::write_whole)
+    /// puts it in its place whole.
+    pub fn save(&self) -> Vec<u8> {
+        let mut file = vec![0; SAVE_BYTES + self.ram.len()];
+        let written = bytes::save(&self.state.encode(), &self.ram, &self.store, &mut file).result();
+        written.expect("what a cartridge has can exist, and there is room");
+        file
+    }
+
+    /// Copies of state, RAM and frame store, in loose pieces.
+    pub fn parts(&self) -> Parts {
+        Parts {
             state: self.state.encode().to_vec(),
             ram: self.ram.clone(),
             store: self.store.clone(),
         }
     }
+
+    /// The RAM as it is, which is the battery save that other emulators read.
+    pub fn battery(&self) -> &[u8] {
+        &self.ram
+    }
+}
+
+/// Bytes of the RAM that a save of this length has; of what is no save's length, one bank.
+fn ram_bytes(file: &[u8]) -> usize {
+    let rest = file.len().saturating_sub(SAVE_BYTES);
+    let allowed = [1, 2, 4, 8, 16].map(|banks| banks * RAM_BANK);
+    allowed
+        .into_iter()
+        .find(|&bytes| bytes == rest)
+        .unwrap_or(RAM_BANK)
 }

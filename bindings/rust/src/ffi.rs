@@ -107,4 +107,26 @@ extern "C" {
         report: *mut u8,
         report_len: usize,
     ) -> u64;
+
+    pub fn gulxinett_save(
+        state: *const u8,
+        state_len: usize,
+        ram: *const u8,
+        ram_len: usize,
+        store: *const u8,
+        store_len: usize,
+        out: *mut u8,
+        out_len: usize,
+    ) -> u64;
+
+    pub fn gulxinett_restore(
+        file: *const u8,
+        file_len: usize,
+        state: *mut u8,
+        state_len: usize,
+        ram: *mut u8,
+        ram_len: usize,
+        store: *mut u8,
+        store_len: usize,
+    ) -> u64;
 }

@@ -17,10 +17,12 @@
 pub mod bytes;
 mod cartridge;
 mod ffi;
+mod files;
 mod recorder;
 mod state;
 
-pub use cartridge::{Cartridge, Save};
+pub use cartridge::{Cartridge, Parts};
+pub use files::write_whole;
 pub use state::{layout_of, State};
 
 /// Bytes of the state record.
@@ -43,6 +45,8 @@ pub const PICTURE_OFFSET: usize = 0x100;
 pub const PLATE_BYTES: usize = 14_351;
 /// Bytes of a plate as shades: one for each of its pixels, 0 white to 3 black.
 pub const SHADES_BYTES: usize = 14_336;
+/// Bytes of a save file besides its RAM.
+pub const SAVE_BYTES: usize = 16_516;
 /// Bytes of a row of the image.
 pub const ROW_BYTES: usize = 128;
 /// Bytes of the longest line of a bus script, that of an image row, with its LF.

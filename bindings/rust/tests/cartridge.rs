@@ -1,7 +1,7 @@
 //! The owner of a cartridge's memory: a save picked up by another, and what bad input gets.
 
 use gulxinett::{
-    bytes, layout_of, picture, Cartridge, Choice, Element, Refusal, Save, FRAME_BYTES, LAYOUT,
+    bytes, layout_of, picture, Cartridge, Choice, Element, Parts, Refusal, FRAME_BYTES, LAYOUT,
     PICTURE_BYTES, PLATE_BYTES, RAM_BANK, REGISTERS, ROM_BANK, SHADES_BYTES, STATE_BYTES,
 };
 
@@ -37,9 +37,9 @@ fn half_way() -> Cartridge {
 
 #[test]
 fn a_save_goes_on_elsewhere() {
-    let save = half_way().save();
-    let mut other = Cartridge::restore(save.clone()).unwrap();
-    assert!(other.save() == save);
+    let save = half_way().parts();
+    let mut other = Cartridge::from_parts(save.clone()).unwrap();
+    assert!(other.parts() == save);
     let fresh = picture(&frame(), &registers()).unwrap();
     assert!(other.area() != fresh);
     assert_eq!(other.tick(u32::MAX), Ok(TOTAL - TOTAL / 2));
@@ -65,7 +65,7 @@ fn the_calls() {
     cartridge.write(0xA006, 0xFF).unwrap();
     let first = Element { row: 0, column: 0 };
     assert_eq!(cartridge.inspect(), Ok(Some(first)));
-    let mut other = Cartridge::restore_with(cartridge.save(), rom).unwrap();
+    let mut other = Cartridge::from_parts_with(cartridge.parts(), rom).unwrap();
     assert_eq!(other.read(0x4000), Ok(0xA5));
     cartridge.reset();
     assert_eq!(cartridge.inspect(), Ok(None));
@@ -190,7 +190,7 @@ fn placings_that_are_refused() -> Result<(), Refusal> {
     cartridge.place(&good)?;
     assert!(cartridge.plate() == good);
     let place = |state: &[u8], ram: &mut [u8], file: &[u8]| bytes::place(state, ram, file).result();
-    let state = half_way().save().state;
+    let state = half_way().parts().state;
     let mut ram = [0xA5; RAM_BANK];
     assert_eq!(place(&[], &mut ram[1..], &[]), Err(Refusal::State));
     assert_eq!(place(&state, &mut ram[1..], &[]), Err(Refusal::Ram));
@@ -255,7 +255,7 @@ fn readings_before_the_dots() -> Result<(), Refusal> {
         for (address, byte) in [(0x4000, 0x10), (0xA002, 1), (0xA004, inverted), (0xA000, 3)] {
             cartridge.write(address, byte)?;
         }
-        assert!(cartridge.save().store == [value; FRAME_BYTES]);
+        assert!(cartridge.parts().store == [value; FRAME_BYTES]);
         assert!(cartridge.readings()?[15..] == [value; SHADES_BYTES]);
         cartridge.tick(u32::MAX)?;
     }
@@ -266,7 +266,7 @@ fn readings_before_the_dots() -> Result<(), Refusal> {
 fn readings_that_are_refused() {
     let read =
         |state: &[u8], store: &[u8], out: &mut [u8]| bytes::readings(state, store, out).result();
-    let (held, free) = (half_way().save(), Cartridge::default().save());
+    let (held, free) = (half_way().parts(), Cartridge::default().parts());
     let mut room = [0xA5; PLATE_BYTES + 1];
     let short = &mut room[2..];
     assert_eq!(read(&[], &[], short), Err(Refusal::State));
@@ -292,7 +292,7 @@ fn choices_write_their_registers_alone() {
     let mut cartridge = half_way();
     cartridge.write(0x4000, 5).unwrap();
     let before = *cartridge.state();
-    let (area, store) = (cartridge.area().to_vec(), cartridge.save().store);
+    let (area, store) = (cartridge.area().to_vec(), cartridge.parts().store);
     cartridge.record();
     cartridge.lend(&frame()).unwrap();
     let start = cartridge.recording().len();
@@ -310,7 +310,7 @@ fn choices_write_their_registers_alone() {
     assert_eq!(due.registers[2..4], [0x10, 0]);
     assert_eq!(due.registers[4..6], before.registers[4..6]);
     assert_eq!(due.registers[6..9], [0x8C, 0x98, 0xAC]);
-    assert!(cartridge.area() == area && cartridge.save().store == store);
+    assert!(cartridge.area() == area && cartridge.parts().store == store);
     let register = |n: usize| format!("02A0{n:02X}{:02X}\n", due.registers[n]);
     let lines: String = [2, 3].into_iter().chain(6..54).map(register).collect();
     let script = format!("02400010\n{lines}02400005\n");
@@ -382,9 +382,9 @@ fn captures_are_counted() -> Result<(), Refusal> {
         cartridge.tick(1_000_000)?;
         assert_eq!((cartridge.started(), cartridge.ended()), (serial, serial));
     }
-    let mut save = cartridge.save();
+    let mut save = cartridge.parts();
     save.state[9..13].copy_from_slice(&[0xFF, 0xFF, 0xFE, 0xFF]);
-    let mut worn = Cartridge::restore(save)?;
+    let mut worn = Cartridge::from_parts(save)?;
     worn.write(0xA000, 1)?;
     worn.tick(1_000_000)?;
     assert_eq!((worn.started(), worn.ended()), (0, 0xFFFF));
@@ -396,7 +396,7 @@ fn captures_are_counted() -> Result<(), Refusal> {
 /// A state that another version saved is refused, with a sentence that says so, and never finished.
 #[test]
 fn saves_of_another_layout() {
-    let good = half_way().save();
+    let good = half_way().parts();
     assert_eq!((LAYOUT, layout_of(&good.state)), (3, Some(3)));
     let first = include_bytes!("../../../tests/data/layout-1.state").to_vec();
     let second = include_bytes!("../../../tests/data/layout-2.state").to_vec();
@@ -409,11 +409,11 @@ fn saves_of_another_layout() {
         assert_eq!(refused, Err(Refusal::State));
         assert!(ticked == state && ram == good.ram);
         assert_eq!(layout_of(&state), Some(layout));
-        let save = Save {
+        let save = Parts {
             state,
             ..good.clone()
         };
-        let refusal = Cartridge::restore(save).expect_err("it is of another layout");
+        let refusal = Cartridge::from_parts(save).expect_err("it is of another layout");
         assert_eq!((refusal, refusal.number()), (Refusal::Layout(layout), 1));
         let said =
             format!("the state is of layout {layout}, and this program reads layout {LAYOUT}");
@@ -423,11 +423,11 @@ fn saves_of_another_layout() {
 
 #[test]
 fn saves_that_are_none() {
-    let good = half_way().save();
-    let restored = |change: &dyn Fn(&mut Save)| {
+    let good = half_way().parts();
+    let restored = |change: &dyn Fn(&mut Parts)| {
         let mut save = good.clone();
         change(&mut save);
-        Cartridge::restore(save).map(|_| ())
+        Cartridge::from_parts(save).map(|_| ())
     };
     assert_eq!(restored(&|_| ()), Ok(()));
     for length in [0, STATE_BYTES - 1, STATE_BYTES + 1] {

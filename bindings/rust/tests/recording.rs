@@ -117,7 +117,7 @@ fn images_for_photographs_that_are_refused() {
 fn an_image_that_a_script_does_not_begin_with_is_told_before_a_write() {
     let black = vec![0; FRAME_BYTES];
     let image: Vec<u8> = (0..FRAME_BYTES).map(|place| (place * 7) as u8).collect();
-    let restored = Cartridge::restore(Cartridge::default().save()).unwrap();
+    let restored = Cartridge::restore(&Cartridge::default().save()).unwrap();
     let mut lent = Cartridge::default();
     lent.lend(&image).unwrap();
     for (mut cartridge, image) in [(restored, black), (lent, image)] {

@@ -7,7 +7,7 @@
 #![forbid(unsafe_code)]
 
 use gulxinett::{
-    picture, Cartridge, Save, FRAME_BYTES, PICTURE_BYTES, RAM_BANK, REGISTERS, ROM_BANK,
+    picture, write_whole, Cartridge, FRAME_BYTES, PICTURE_BYTES, RAM_BANK, REGISTERS, ROM_BANK,
 };
 use std::error::Error;
 use std::process::ExitCode;
@@ -18,20 +18,12 @@ const HALF: u32 = TOTAL / 2;
 
 type Outcome<T> = Result<T, Box<dyn Error>>;
 
-/// A cartridge from the file: state, RAM and frame store, one after the other.
 fn load(path: &str) -> Outcome<Cartridge> {
-    let saved = std::fs::read(path)?;
-    let size = saved.len().saturating_sub(RAM_BANK + FRAME_BYTES);
-    ensure(size > 0, "the file has another size")?;
-    let (state, memory) = saved.split_at(size);
-    let (ram, store) = memory.split_at(RAM_BANK);
-    let [state, ram, store] = [state, ram, store].map(<[u8]>::to_vec);
-    Ok(Cartridge::restore(Save { state, ram, store })?)
+    Ok(Cartridge::restore(&std::fs::read(path)?)?)
 }
 
 fn save(cartridge: &Cartridge, path: &str) -> Outcome<()> {
-    let Save { state, ram, store } = cartridge.save();
-    Ok(std::fs::write(path, [state, ram, store].concat())?)
+    Ok(write_whole(path, &cartridge.save())?)
 }
 
 /// Writes registers 1 to 53, then register 0.
