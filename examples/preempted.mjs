@@ -4,7 +4,8 @@
 // node preempted.mjs finish FILE  loads it, lends another image, changes the registers and resumes
 //
 // The finished picture must be the one of the first image under the first registers.
-import { readFileSync, writeFileSync } from "node:fs";
+import { readFileSync } from "node:fs";
+import { writeWhole } from "../bindings/js/files.js";
 import { FRAME_BYTES, PICTURE_BYTES, RAM_BANK, REGISTERS, load } from "../bindings/js/gulxinett.js";
 
 const TRIGGER = 0xa000;
@@ -40,7 +41,7 @@ function ensure(holds, otherwise) {
 
 const same = (a, b) => Buffer.compare(a, b) === 0;
 
-function begin(path) {
+async function begin(path) {
   const cartridge = new Cartridge({ ram: new Uint8Array(RAM_BANK) });
   cartridge.lend(firstImage);
   cartridge.write(0x4000, 0x10);
@@ -48,23 +49,13 @@ function begin(path) {
   ensure(cartridge.tick(HALF) === HALF, "the capture did not run half way");
   cartridge.write(TRIGGER, firstRegisters[0] & 6);
   ensure(cartridge.tick(1_000_000) === 0, "a stopped capture ran on");
-  const { state, ram, store } = cartridge.save();
-  writeFileSync(path, Buffer.concat([state, ram, store]));
+  await writeWhole(path, cartridge.save());
   console.log(`begin: a capture ran ${HALF} of ${TOTAL} cycles and was stopped`);
   console.log("begin: state, RAM and frame store saved");
 }
 
-/** A cartridge from the file: state, RAM and frame store, one after the other. */
-function loaded(path) {
-  const saved = readFileSync(path);
-  const ram = saved.length - RAM_BANK - FRAME_BYTES;
-  const store = saved.length - FRAME_BYTES;
-  ensure(ram > 0, "the file has another size");
-  return Cartridge.restore({ state: saved.subarray(0, ram), ram: saved.subarray(ram, store), store: saved.subarray(store) });
-}
-
 function finish(path) {
-  const cartridge = loaded(path);
+  const cartridge = Cartridge.restore(readFileSync(path));
   const wanted = picture(firstImage, firstRegisters);
   ensure(!same(cartridge.area(), wanted), "the picture was whole before the capture ended");
   cartridge.lend(secondImage);
@@ -82,7 +73,7 @@ const [word, path, ...more] = process.argv.slice(2);
 const step = { begin, finish }[word];
 try {
   ensure(step && path && more.length === 0, "usage: preempted.mjs begin FILE | preempted.mjs finish FILE");
-  step(path);
+  await step(path);
 } catch (error) {
   console.error(`preempted.mjs: ${error.message}`);
   process.exitCode = 1;

@@ -5,7 +5,8 @@
 // goes to OUT.script, and what each call answered, as the program bus says it, to OUT.answers. With 'plate' the
 // picture area is read out by calls at the end, and must be the plate.
 import { existsSync, readFileSync, writeFileSync } from "node:fs";
-import { FRAME_BYTES, PICTURE_BYTES, PLATE_BYTES, RAM_BANK, REGISTERS, Refusal, STATE_BYTES, load } from "../bindings/js/gulxinett.js";
+import { FRAME_BYTES, PICTURE_BYTES, PLATE_BYTES, REGISTERS, Refusal, load } from "../bindings/js/gulxinett.js";
+import { writeWhole } from "../bindings/js/files.js";
 
 const TRIGGER = 0xa000;
 const AREA = 0xa100;
@@ -154,17 +155,10 @@ class Session {
   }
 }
 
-/** The cartridge of a file: state, RAM and frame store, one after the other. */
-function restored(path) {
-  const saved = readFileSync(path);
-  const [ram, store] = [STATE_BYTES, STATE_BYTES + RAM_BANK];
-  return Cartridge.restore({ state: saved.subarray(0, ram), ram: saved.subarray(ram, store), store: saved.subarray(store) });
-}
-
 const [save, out, seed, steps, plate] = process.argv.slice(2);
-const session = new Session(existsSync(save) ? restored(save) : new Cartridge(), randomBelow(Number(seed)));
+const session = new Session(existsSync(save) ? Cartridge.restore(readFileSync(save)) : new Cartridge(), randomBelow(Number(seed)));
 for (let step = 0; step < Number(steps); step++) session.step();
 if (plate) session.readOut();
-writeFileSync(save, Buffer.concat(Object.values(session.cartridge.save())));
+await writeWhole(save, session.cartridge.save());
 writeFileSync(`${out}.script`, session.cartridge.recording());
 writeFileSync(`${out}.answers`, session.answers.map((answer) => `${answer}\n`).join(""));

@@ -23,6 +23,8 @@ export const PICTURE_OFFSET: 256;
 export const PLATE_BYTES: 14351;
 /** Bytes of a plate as shades: one for each of its pixels, 0 white to 3 black. */
 export const SHADES_BYTES: 14336;
+/** Bytes of a save file besides its RAM. */
+export const SAVE_BYTES: 16516;
 /** The most bytes of a script that is salvaged. */
 export const SCRIPT_BYTES: 32768;
 
@@ -41,8 +43,8 @@ export class Refusal extends Error {
   readonly number: number;
 }
 
-/** All that a cartridge needs to go on elsewhere; the ROM is brought by whoever goes on. */
-export interface Save {
+/** What a save has, in loose pieces; the ROM is no part of it. */
+export interface Parts {
   /** The state record, 121 bytes. */
   state: Uint8Array;
   /** The RAM, as long as it was given. */
@@ -144,16 +146,24 @@ export interface Cartridge {
    * capture held, the whole of it however far it has run.
    */
   readings(): Uint8Array;
-  /** Copies of state, RAM and frame store. */
-  save(): Save;
+  /** State, RAM and frame store as one save file, with a checksum over all of it; `writeWhole` of `gulxinett/files.js` puts it in its place. */
+  save(): Uint8Array;
+  /** Copies of state, RAM and frame store, in loose pieces. */
+  parts(): Parts;
+  /** A copy of the RAM as it is, which is the battery save that other emulators read. */
+  battery(): Uint8Array;
   /** Gives the memory back to the next cartridge; closing twice is no error. */
   close(): void;
 }
 
 export interface CartridgeClass {
   new (given?: Given): Cartridge;
-  /** A cartridge that goes on from a save, made here or in another language. */
-  restore(save: { state: Bytes; ram: Bytes; store: Bytes }, given?: { rom?: Bytes }): Cartridge;
+  /** A cartridge that goes on from a save file, made here or in another language; refused as 8 if it is not exactly one. */
+  restore(file: Bytes, given?: { rom?: Bytes }): Cartridge;
+  /** A cartridge that goes on from loose pieces. */
+  fromParts(parts: { state: Bytes; ram: Bytes; store: Bytes }, given?: { rom?: Bytes }): Cartridge;
+  /** A cartridge as after reset over a battery save of another emulator, which is the RAM as it is: 131,072 bytes of a real cartridge. */
+  fromBattery(ram: Bytes, given?: { rom?: Bytes }): Cartridge;
 }
 
 /** A loaded module. Its cartridges share one memory, which grows as they need it. */

@@ -25,6 +25,8 @@ export const PICTURE_OFFSET = 0x100;
 export const PLATE_BYTES = 14_351;
 /** Bytes of a plate as shades: one for each of its pixels, 0 white to 3 black. */
 export const SHADES_BYTES = 14_336;
+/** Bytes of a save file besides its RAM. */
+export const SAVE_BYTES = 16_516;
 /** The most bytes of a script that is salvaged. */
 export const SCRIPT_BYTES = 32_768;
 
@@ -37,6 +39,8 @@ const SELECT_OFFSET = 3;
 const STARTED_OFFSET = 9;
 const ENDED_OFFSET = 11;
 const REGISTERS_OFFSET = 13;
+/** The lengths that a RAM can have. */
+const RAM_LENGTHS = [1, 2, 4, 8, 16].map((banks) => banks * RAM_BANK);
 /** Bytes of the state record of layout 1, which had no number and began with a flag. */
 const FIRST_LAYOUT_BYTES = 116;
 
@@ -203,9 +207,31 @@ function bound(exports) {
       this.#judge();
     }
 
-    /** A cartridge that goes on from a save. */
-    static restore(save, { rom } = {}) {
-      const { state, ram, store } = save ?? {};
+    /** A cartridge that goes on from a save file; refused as 8 if it is not exactly one. */
+    static restore(file, { rom } = {}) {
+      const save = bytesOf("the save", file);
+      const rest = save.length - SAVE_BYTES;
+      const named = {
+        save,
+        state: new Uint8Array(STATE_BYTES),
+        ram: new Uint8Array(RAM_LENGTHS.includes(rest) ? rest : RAM_BANK),
+        store: new Uint8Array(FRAME_BYTES),
+      };
+      const parts = withCopies(named, ({ save, state, ram, store }) => {
+        valueOf(exports.gulxinett_restore(...lent(save, state, ram, store)));
+        return { state: state.bytes.slice(), ram: ram.bytes.slice(), store: store.bytes.slice() };
+      });
+      return new Cartridge({ rom, ...parts });
+    }
+
+    /** A cartridge as after reset over a battery save of another emulator, which is the RAM as it is. */
+    static fromBattery(ram, { rom } = {}) {
+      return new Cartridge({ rom, ram: bytesOf("the battery save", ram) });
+    }
+
+    /** A cartridge that goes on from loose pieces. */
+    static fromParts(parts, { rom } = {}) {
+      const { state, ram, store } = parts ?? {};
       for (const [part, bytes] of Object.entries({ state, ram, store })) bytesOf(`the save's ${part}`, bytes);
       return new Cartridge({ rom, state, ram, store });
     }
@@ -377,8 +403,22 @@ function bound(exports) {
       });
     }
 
-    /** Copies of all that another cartridge needs to go on from here. */
+    /** State, RAM and frame store as one save file, with a checksum over all of it. */
     save() {
+      const { state, ram, store } = this.#open();
+      return withCopies({ file: new Uint8Array(SAVE_BYTES + ram.length) }, ({ file }) => {
+        valueOf(exports.gulxinett_save(...lent(state, ram, store, file)));
+        return file.bytes.slice();
+      });
+    }
+
+    /** A copy of the RAM as it is, which is the battery save that other emulators read. */
+    battery() {
+      return this.#open().ram.bytes.slice();
+    }
+
+    /** Copies of state, RAM and frame store, in loose pieces. */
+    parts() {
       const { state, ram, store } = this.#open();
       return { state: state.bytes.slice(), ram: ram.bytes.slice(), store: store.bytes.slice() };
     }

@@ -30,7 +30,7 @@ function begin(cartridge, number) {
 }
 
 /** What a cartridge is, all of it. */
-const whole = (cartridge) => ({ ...cartridge.save(), image: cartridge.picture() });
+const whole = (cartridge) => ({ ...cartridge.parts(), image: cartridge.picture() });
 
 /** The work must throw an error of a kind, with these words in it. */
 function throws(kind, words, work) {
@@ -102,7 +102,7 @@ function calls() {
   cartridge.write(0x4000, 0x10);
   cartridge.write(0xa006 + 3 * 7, 1);
   assert.deepEqual(cartridge.inspect(), { row: 1, column: 3 });
-  assert.equal(Cartridge.restore(cartridge.save(), { rom }).read(0x4000), 0xa5);
+  assert.equal(Cartridge.fromParts(cartridge.parts(), { rom }).read(0x4000), 0xa5);
   cartridge.reset();
   assert.equal(cartridge.inspect(), null);
   assert.deepEqual(cartridge.area(), new Uint8Array(PICTURE_BYTES).fill(1));
@@ -182,10 +182,10 @@ function placings() {
     other.write(0x4000, select);
     other.write(0x0000, enable);
     other.record();
-    const { state, ram, store } = other.save();
+    const { state, ram, store } = other.parts();
     other.place(file);
     ram.set(area, 0x100);
-    assert.deepEqual(other.save(), { state, ram, store });
+    assert.deepEqual(other.parts(), { state, ram, store });
     assert.deepEqual(other.plate(), file);
     const bytes = Array.from(area, (byte, place) => line(0xa100 + place, byte)).join("");
     const due = line(0x0000, 0x0a) + line(0x4000, 0) + bytes + line(0x4000, select) + line(0x0000, enable);
@@ -228,7 +228,7 @@ function readings() {
   cartridge.lend(new Uint8Array(FRAME_BYTES).fill(0xff));
   for (const [inverted, value] of [[0, 207], [8, 48]]) {
     for (const [address, byte] of [[0x4000, 0x10], [0xa002, 1], [0xa004, inverted], [0xa000, 3]]) cartridge.write(address, byte);
-    assert.ok(cartridge.save().store.every((lit) => lit === value));
+    assert.ok(cartridge.parts().store.every((lit) => lit === value));
     assert.ok(cartridge.readings().subarray(15).every((reading) => reading === value));
     cartridge.tick(0xffff_ffff);
   }
@@ -281,17 +281,17 @@ function choices() {
   const cartridge = begin(new Cartridge(), 1);
   cartridge.write(0x4000, 0x05);
   cartridge.tick(20_000);
-  const before = cartridge.save();
+  const before = cartridge.parts();
   cartridge.record();
   cartridge.lend(frame(1));
   const start = cartridge.recording().length;
   cartridge.choose({ light: 1, level: 7 });
   const low = [0x8c, 0x98, 0xac];
-  const { state } = cartridge.save();
+  const { state } = cartridge.parts();
   assert.deepEqual([...state.subarray(15, 17), ...state.subarray(19, 22)], [0x10, 0, ...low]);
   const written = (place) => place === 15 || place === 16 || (place >= 19 && place < 67);
   state.forEach((byte, place) => assert.ok(written(place) || byte === before.state[place], `byte ${place}`));
-  assert.deepEqual(cartridge.save(), { ...before, state });
+  assert.deepEqual(cartridge.parts(), { ...before, state });
   const line = (address, value) => `02${address.toString(16).toUpperCase()}${Buffer.from([value]).toString("hex").toUpperCase()}\n`;
   const register = (number) => line(0xa000 + number, state[13 + number]);
   const matrix = Array.from({ length: 48 }, (_, place) => register(6 + place)).join("");
@@ -303,10 +303,10 @@ function choices() {
   throws(RangeError, "the level must be a whole number from 0 to 255", () => cartridge.choose({ light: 0, level: 256 }));
   throws(RangeError, "the exposure must be a whole number from 0 to 65535", () => cartridge.choose({ light: 0, level: 0, exposure: 65536 }));
   throws(TypeError, "dithering must be true or false", () => cartridge.choose({ light: 0, level: 0, dithering: 0 }));
-  assert.deepEqual(cartridge.save(), { ...before, state });
+  assert.deepEqual(cartridge.parts(), { ...before, state });
   assert.equal(recorded(), due);
   cartridge.choose({ light: 1, level: 7, dithering: false, exposure: 0x1234 });
-  const plain = cartridge.save().state;
+  const plain = cartridge.parts().state;
   assert.deepEqual([...plain.subarray(15, 17)], [0x12, 0x34]);
   assert.deepEqual([...plain.subarray(19, 67)], Array.from({ length: 16 }, () => low).flat());
   assert.equal(cartridge.inspect(), null);
@@ -349,7 +349,7 @@ function recorder() {
   const copy = cartridge.recording();
   copy.fill(0);
   has("");
-  recorderNotAtTheBeginning(image, Cartridge.restore(cartridge.save()));
+  recorderNotAtTheBeginning(image, Cartridge.fromParts(cartridge.parts()));
   say(`the recorder: ${due.length} bytes, each call made and each row that changed`);
 }
 
@@ -419,7 +419,7 @@ function sideBySide() {
     begin(many[number], number).tick(number * 500);
   }
   many.forEach((cartridge, number) => {
-    const other = Cartridge.restore(cartridge.save());
+    const other = Cartridge.fromParts(cartridge.parts());
     for (const one of [cartridge, other]) {
       assert.equal(one.tick(0xffff_ffff), TOTAL - number * 500);
       assert.deepEqual(one.area(), picture(frame(number), registers));
@@ -470,14 +470,14 @@ async function nothingLost() {
   };
   const { Cartridge, picture, salvage } = await load();
   WebAssembly.instantiate = instantiate;
-  const save = new Cartridge().save();
+  const save = new Cartridge().parts();
   const [good, bad] = [new Uint8Array(2 * ROM_BANK), new Uint8Array(3 * ROM_BANK)];
   let most = 0;
   for (let round = 0; round < 200; round++) {
     new Cartridge({ rom: good }).close();
     refused(2, () => new Cartridge({ rom: bad }));
-    refused(4, () => Cartridge.restore({ ...save, store: bad }));
-    throws(TypeError, "the save's ram", () => Cartridge.restore({ ...save, ram: [] }));
+    refused(4, () => Cartridge.fromParts({ ...save, store: bad }));
+    throws(TypeError, "the save's ram", () => Cartridge.fromParts({ ...save, ram: [] }));
     picture(save.store, registers);
     refused(4, () => picture(bad, registers));
     salvage(good);
@@ -539,30 +539,30 @@ function badMemory() {
   say("ROM and RAM of wrong lengths refused by 2 and 3; what was given is copied");
 }
 
-function badSaves() {
+function badParts() {
   const cartridge = begin(new Cartridge(), 4);
   cartridge.tick(20_000);
-  const save = cartridge.save();
+  const save = cartridge.parts();
   const before = structuredClone(save);
   const patched = (place, byte) => Uint8Array.from(save.state, (old, at) => (at === place ? byte : old));
-  for (const length of [0, 1, STATE_BYTES - 1]) refused(1, () => Cartridge.restore({ ...save, state: save.state.slice(0, length) }));
-  refused(1, () => Cartridge.restore({ ...save, state: new Uint8Array(STATE_BYTES + 1) }));
+  for (const length of [0, 1, STATE_BYTES - 1]) refused(1, () => Cartridge.fromParts({ ...save, state: save.state.slice(0, length) }));
+  refused(1, () => Cartridge.fromParts({ ...save, state: new Uint8Array(STATE_BYTES + 1) }));
   for (const [place, byte] of [[0, 1], [1, 2], [2, 64], [3, 32], [4, 0], [4, 2], [8, 255], [13, 8]]) {
-    refused(1, () => Cartridge.restore({ ...save, state: patched(place, byte) }));
+    refused(1, () => Cartridge.fromParts({ ...save, state: patched(place, byte) }));
   }
-  for (const length of [0, RAM_BANK - 1, 3 * RAM_BANK]) refused(3, () => Cartridge.restore({ ...save, ram: new Uint8Array(length) }));
+  for (const length of [0, RAM_BANK - 1, 3 * RAM_BANK]) refused(3, () => Cartridge.fromParts({ ...save, ram: new Uint8Array(length) }));
   for (const length of [0, FRAME_BYTES - 1, FRAME_BYTES + 1]) {
-    refused(4, () => Cartridge.restore({ ...save, store: new Uint8Array(length) }));
+    refused(4, () => Cartridge.fromParts({ ...save, store: new Uint8Array(length) }));
   }
-  refused(2, () => Cartridge.restore(save, { rom: new Uint8Array(5) }));
+  refused(2, () => Cartridge.fromParts(save, { rom: new Uint8Array(5) }));
   for (const part of ["state", "ram", "store"]) {
-    throws(TypeError, `the save's ${part} must be`, () => Cartridge.restore({ ...save, [part]: undefined }));
+    throws(TypeError, `the save's ${part} must be`, () => Cartridge.fromParts({ ...save, [part]: undefined }));
   }
-  for (const none of [undefined, null, 7, "save"]) throws(TypeError, "the save's state must be", () => Cartridge.restore(none));
+  for (const none of [undefined, null, 7, "save"]) throws(TypeError, "the save's state must be", () => Cartridge.fromParts(none));
   assert.deepEqual(save, before);
-  assert.deepEqual(cartridge.save(), before);
+  assert.deepEqual(cartridge.parts(), before);
   cartridge.close();
-  say("saves cut short, of another size or impossible: refused by number, and nothing changed");
+  say("parts cut short, of another size or impossible: refused by number, and nothing changed");
 }
 
 /** The two counts: one more at a start and at an end, none at a stop or a resume, and from 65,535 to 0. */
@@ -580,9 +580,9 @@ function counts() {
     cartridge.tick(1_000_000);
     assert.deepEqual(both(cartridge), [serial, serial]);
   }
-  const save = cartridge.save();
+  const save = cartridge.parts();
   save.state.set([0xff, 0xff, 0xfe, 0xff], 9);
-  const worn = Cartridge.restore(save);
+  const worn = Cartridge.fromParts(save);
   assert.deepEqual(both(worn), [0xffff, 0xfffe]);
   worn.write(0xa000, 1);
   worn.tick(1_000_000);
@@ -598,7 +598,7 @@ function counts() {
 function layouts() {
   const cartridge = begin(new Cartridge(), 4);
   cartridge.tick(20_000);
-  const save = cartridge.save();
+  const save = cartridge.parts();
   assert.deepEqual([LAYOUT, layoutOf(save.state)], [3, 3]);
   const kept = (layout) => new Uint8Array(readFileSync(new URL(`../../../tests/data/layout-${layout}.state`, import.meta.url)));
   const [first, second] = [kept(1), kept(2)];
@@ -608,14 +608,14 @@ function layouts() {
   for (const [layout, state] of [[1, first], [2, second], [4, later]]) {
     assert.equal(layoutOf(state), layout);
     const sentence = `the state is of layout ${layout}, and this program reads layout ${LAYOUT}: another version saved it`;
-    assert.throws(() => Cartridge.restore({ ...save, state }), { name: "Refusal", number: 1, message: sentence });
+    assert.throws(() => Cartridge.fromParts({ ...save, state }), { name: "Refusal", number: 1, message: sentence });
   }
   for (const none of [[], [0], new Array(STATE_BYTES).fill(1)]) {
     const state = Uint8Array.from(none);
     assert.equal(layoutOf(state), null);
-    assert.throws(() => Cartridge.restore({ ...save, state }), { number: 1, message: "the state record can't exist" });
+    assert.throws(() => Cartridge.fromParts({ ...save, state }), { number: 1, message: "the state record can't exist" });
   }
-  assert.deepEqual(cartridge.save(), save);
+  assert.deepEqual(cartridge.parts(), save);
   cartridge.close();
   say("a state of another layout refused by 1, and why");
 }
@@ -628,7 +628,7 @@ function closed() {
   cartridge.close();
   const uses = {
     reset: [], read: [0], write: [0xa000, 0], tick: [1], inspect: [], choose: [{ light: 0, level: 0 }], lend: [frame(1)], lendPhoto: [frame(1)], picture: [], area: [], plate: [],
-    place: [frame(1)], shades: [], readings: [], save: [], record: [], recording: [],
+    place: [frame(1)], shades: [], readings: [], save: [], parts: [], battery: [], record: [], recording: [],
   };
   for (const [name, words] of Object.entries(uses)) throws(Error, "the cartridge is closed", () => cartridge[name](...words));
   throws(Error, "the cartridge is closed", () => cartridge.picture(frame(1), registers));
@@ -655,7 +655,7 @@ memory();
 await nothingLost();
 badCalls();
 badMemory();
-badSaves();
+badParts();
 counts();
 layouts();
 closed();
