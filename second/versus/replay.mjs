@@ -17,7 +17,7 @@ const FENCE = 0xc3;
 const FENCE_BYTES = 64;
 /** The most bytes that each memory is lent, in the order of the steps. */
 const ROOM = {
-  state: 256, rom: 130 * 16384, ram: 34 * 8192, store: 32768, image: 32768, file: 10_000_000, picture: 3584, out: 49152, report: 49152,
+  state: 256, rom: 130 * 16384, ram: 34 * 8192, store: 32768, image: 32768, file: 10_000_000, picture: 3584, out: 163840, report: 49152,
   registers: 54, row: 256,
 };
 const NAMES = Object.keys(ROOM);
@@ -101,9 +101,9 @@ function kinds(steps, memories, exports) {
   const lent = (...names) => names.map((name) => memories.named(name)).flatMap((part) => [part.address, BigInt(part.length)]);
   const undrawn = (length) => new Uint8Array(length).fill(UNDRAWN);
   /** Room for what a call gives out. */
-  const makeRoom = (name = "out") => {
+  const makeRoom = (name = "out", length = steps.short()) => {
     const out = memories.named(name);
-    out.length = steps.short();
+    out.length = length;
     memories.put(out, 0, undrawn(out.length));
   };
   const line = (kind, ...words) => {
@@ -165,6 +165,11 @@ function kinds(steps, memories, exports) {
       makeRoom("report");
       return ["salvage", () => exports.gulxinett_salvage(...lent("file", "out", "report"))];
     },
+    () => {
+      makeRoom("out", steps.word());
+      return ["save", () => exports.gulxinett_save(...lent("state", "ram", "store", "out"))];
+    },
+    () => ["restore", () => exports.gulxinett_restore(...lent("file", "state", "ram", "store"))],
   ];
 }
 

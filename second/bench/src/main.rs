@@ -1,6 +1,6 @@
 //! The proved archive beside the second program, in the same run; mGBA and the browser module too.
 //!
-//! `bench [--quick] [--save FILE] [--compare FILE] [--mgba PROGRAM] [--browser PROGRAM] PROVED SECOND`:
+//! `bench [--quick] [--save FILE] [--compare FILE] [--mgba PROGRAM] [--browser PROGRAM] [--zlib PROGRAM] PROVED SECOND`:
 //! PROVED and SECOND are the two script programs, and every program is named with its arguments in one
 //! word of the shell. The proved controller is called by its C functions, which take the state as bytes;
 //! the second program's functions are called as they are.
@@ -9,6 +9,7 @@
 
 mod machines;
 mod outside;
+mod saves;
 mod script;
 mod table;
 mod timing;
@@ -33,7 +34,7 @@ fn main() -> ExitCode {
     let Some(words) = Words::new(std::env::args().skip(1)) else {
         eprintln!(
             "usage: bench [--quick] [--save FILE] [--compare FILE] [--mgba PROGRAM] \
-             [--browser PROGRAM] PROVED SECOND"
+             [--browser PROGRAM] [--zlib PROGRAM] PROVED SECOND"
         );
         return ExitCode::from(2);
     };
@@ -53,13 +54,14 @@ struct Words {
     compare: Option<String>,
     mgba: Option<String>,
     browser: Option<String>,
+    zlib: Option<String>,
     programs: [String; 2],
 }
 
 impl Words {
     fn new(mut words: impl Iterator<Item = String>) -> Option<Self> {
         let mut effort = Effort::FULL;
-        let [mut save, mut compare, mut mgba, mut browser] = [const { None }; 4];
+        let [mut save, mut compare, mut mgba, mut browser, mut zlib] = [const { None }; 5];
         let mut programs = Vec::new();
         while let Some(word) = words.next() {
             match word.as_str() {
@@ -68,6 +70,7 @@ impl Words {
                 "--compare" => compare = Some(words.next()?),
                 "--mgba" => mgba = Some(words.next()?),
                 "--browser" => browser = Some(words.next()?),
+                "--zlib" => zlib = Some(words.next()?),
                 word if word.starts_with("--") => return None,
                 _ => programs.push(word),
             }
@@ -78,6 +81,7 @@ impl Words {
             compare,
             mgba,
             browser,
+            zlib,
             programs: programs.try_into().ok()?,
         })
     }
@@ -94,6 +98,7 @@ impl Words {
         bench.captures()?;
         bench.calls();
         written::measure(self.effort, &mut bench.table);
+        saves::measure(self.effort, &mut bench.table, &mut started(&self.zlib)?)?;
         let [proved, second] = &self.programs;
         script::compare(proved, second, self.effort, &mut bench.table)?;
         println!(

@@ -1,5 +1,5 @@
 //! Cameras in processes of their own, which are told over their standard input what to do: mGBA's, and
-//! the browser module under node. mgba.c has the words.
+//! the browser module under node. mgba.c has the words. zlib's checksum too; zlib.c has its words.
 
 use crate::timing::Timed;
 use std::io::{self, BufRead, BufReader, Write};
@@ -35,6 +35,11 @@ impl Outside {
     pub fn show(&mut self, mode: u8, image: &[u8]) -> io::Result<()> {
         write!(self.words, "mode {mode}\nimage\n")?;
         self.words.write_all(image)
+    }
+
+    /// Tells it something that it does not answer.
+    pub fn tell(&mut self, words: &str) -> io::Result<()> {
+        self.words.write_all(words.as_bytes())
     }
 
     /// Lets it capture so many times; the nanoseconds it says that took.

@@ -5,7 +5,7 @@
 //! a length that is in use. Then come steps, numbers little-endian:
 //!
 //! - [`LENT`], which memory, its length as 4 bytes, a patch: it is lent so from here on;
-//! - the kind of a call 0 to 17 and its words, the answer as 8 bytes, how many memories it changed,
+//! - the kind of a call 0 to 19 and its words, the answer as 8 bytes, how many memories it changed,
 //!   and of each which one and a patch. The memory of what a call gives out, a picture, a line, a
 //!   file, or a text and its report, is all [`UNDRAWN`] before;
 //! - [`END`] and how many calls there were, as 8 bytes.
@@ -92,7 +92,8 @@ impl Answers {
             Call::Record { .. }
             | Call::Export { .. }
             | Call::Shades { .. }
-            | Call::Readings { .. } => &[OUT],
+            | Call::Readings { .. }
+            | Call::Save { .. } => &[OUT],
             Call::Salvage { .. } => &[OUT, REPORT],
             _ => &[],
         };
@@ -183,11 +184,18 @@ impl Answers {
                 self.steps.extend((*room as u16).to_le_bytes());
                 self.steps.extend((*report as u16).to_le_bytes());
             }
+            Call::Save { room } => {
+                self.steps.push(18);
+                self.steps.extend((*room as u32).to_le_bytes());
+            }
+            Call::Restore => self.steps.push(19),
             Call::Image { .. }
             | Call::File { .. }
             | Call::Plate { .. }
             | Call::Script { .. }
             | Call::Keep
+            | Call::KeepSave
+            | Call::Damage { .. }
             | Call::Lend { .. }
             | Call::Put { .. } => unreachable!("what is lent is no call"),
         }

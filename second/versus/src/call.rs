@@ -65,6 +65,12 @@ pub enum Call {
         room: usize,
         report: usize,
     },
+    /// State, RAM and frame store as a save, into so many bytes.
+    Save {
+        room: usize,
+    },
+    /// The file lent, read as a save into state, RAM and frame store.
+    Restore,
     /// Another image is lent from here on.
     Image {
         kind: u8,
@@ -84,6 +90,12 @@ pub enum Call {
     },
     /// The picture area as it stands is the file lent from here on.
     Keep,
+    /// The save of what there is now is the file lent from here on.
+    KeepSave,
+    /// The file lent is damaged.
+    Damage {
+        seed: u64,
+    },
     /// Memory of another length is lent from here on.
     Lend {
         what: Lent,
@@ -105,6 +117,8 @@ impl Call {
                 | Call::Plate { .. }
                 | Call::Script { .. }
                 | Call::Keep
+                | Call::KeepSave
+                | Call::Damage { .. }
                 | Call::Lend { .. }
                 | Call::Put { .. }
         )
@@ -145,11 +159,15 @@ impl fmt::Display for Call {
             Call::Salvage { room, report } => {
                 write!(f, "salvage in {room} bytes, report in {report}")
             }
+            Call::Save { room } => write!(f, "save in {room} bytes"),
+            Call::Restore => write!(f, "restoring of the file lent"),
             Call::Image { kind, seed } => write!(f, "image of kind {kind}, seed {seed}"),
             Call::File { seed } => write!(f, "file of seed {seed}"),
             Call::Plate { seed } => write!(f, "plate of seed {seed}"),
             Call::Script { seed } => write!(f, "script of seed {seed}"),
             Call::Keep => write!(f, "the picture area kept as the file lent"),
+            Call::KeepSave => write!(f, "the save kept as the file lent"),
+            Call::Damage { seed } => write!(f, "damage of seed {seed} to the file lent"),
             Call::Lend { what, length } => write!(f, "lend {what:?} of {length} bytes"),
             Call::Put { record } => write!(f, "state {}", hex(record)),
         }

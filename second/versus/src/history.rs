@@ -6,7 +6,7 @@ use crate::lines;
 use crate::random::Random;
 use crate::sides::{refused, Beginning, Pair};
 use crate::sweep::{first_layout, room_for, EXPOSURES};
-use second::{Refusal, State, Timing, GREY_FILE_BYTES, PIXELS};
+use second::{Refusal, State, Timing, GREY_FILE_BYTES, PIXELS, SAVE_BYTES};
 use std::collections::VecDeque;
 
 /// Addresses at the edges of the areas and of the picture.
@@ -32,6 +32,8 @@ pub struct History<'a> {
     pub readings: u64,
     /// Scripts salvaged, none of them refused.
     pub salvaged: u64,
+    /// Saves restored, and files refused as none.
+    pub restored: [u64; 2],
     /// A start was seen, so that its end makes a whole capture.
     started: bool,
 }
@@ -63,6 +65,7 @@ impl<'a> History<'a> {
             placed: [0; 2],
             readings: 0,
             salvaged: 0,
+            restored: [0; 2],
             started: false,
         }
     }
@@ -90,6 +93,11 @@ impl<'a> History<'a> {
             if let Call::Readings { .. } = call {
                 self.readings += u64::from(answer >> 32 == 0);
             }
+            if let Call::Restore = call {
+                let counted = [0, refused(Refusal::File.number().into())];
+                let counts = counted.iter().zip(&mut self.restored);
+                counts.for_each(|(&due, count)| *count += u64::from(answer == due));
+            }
             if let Call::Salvage { .. } = call {
                 self.salvaged += u64::from(answer >> 32 == 0);
             }
@@ -107,7 +115,7 @@ impl<'a> History<'a> {
             Call::Tick { .. } if before && !after => {
                 self.captures += u64::from(std::mem::take(&mut self.started));
             }
-            Call::Reset | Call::Put { .. } => self.started = false,
+            Call::Reset | Call::Restore | Call::Put { .. } => self.started = false,
             Call::Export { .. } if running => self.halves += 1,
             _ => {}
         }
@@ -166,6 +174,7 @@ impl<'a> History<'a> {
                 71..=80 => return self.record(),
                 81..=85 => self.plan_placing(),
                 94..=95 => self.plan_salvage(),
+                96..=101 => self.plan_save(),
                 86..=88 => {
                     return Call::Shades {
                         room: room_for(PIXELS, self.random),
@@ -176,7 +185,7 @@ impl<'a> History<'a> {
                         room: room_for(GREY_FILE_BYTES, self.random),
                     }
                 }
-                96..=480 => {
+                102..=480 => {
                     return Call::Read {
                         address: self.address(),
                     }
@@ -255,6 +264,36 @@ impl<'a> History<'a> {
             self.planned.push_back(Call::Tick { cycles });
         }
         self.planned.push_back(Call::Place);
+    }
+
+    /// Saves, or keeps the save for later, which may be damaged, or goes on from what was kept.
+    fn plan_save(&mut self) {
+        let seed = self.random.next() >> 40;
+        let length = SAVE_BYTES + self.pair.second.ram.len();
+        match self.random.below(6) {
+            0 => self.planned.push_back(Call::Save {
+                room: room_for(length, self.random),
+            }),
+            1 | 2 => self.planned.push_back(Call::KeepSave),
+            3 => {
+                self.planned.push_back(Call::Damage { seed });
+                self.planned.push_back(Call::Restore);
+            }
+            4 => {
+                // back to a moment that was kept some calls ago
+                self.planned.push_back(Call::KeepSave);
+                for _ in 0..self.random.below(20) {
+                    let call = if self.random.once_in(2) {
+                        self.write()
+                    } else {
+                        self.tick()
+                    };
+                    self.planned.push_back(call);
+                }
+                self.planned.push_back(Call::Restore);
+            }
+            _ => self.planned.push_back(Call::Restore),
+        }
     }
 
     /// Lends a file, which may be a script, and salvages it.

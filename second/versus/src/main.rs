@@ -17,6 +17,7 @@ mod plates;
 mod random;
 mod rows;
 mod salvages;
+mod saves;
 mod script;
 mod shrink;
 mod sides;
@@ -154,6 +155,12 @@ fn compare(calls: u64, seed: u64, answers: Option<Answers>) -> Option<Option<Ans
          lines dropped as repeated",
         tally.compared - before
     );
+    let before = tally.compared;
+    let restored = saves::compare(&mut tally, &mut random);
+    println!(
+        "saves: {} calls compared, {restored} of them of files that are read",
+        tally.compared - before
+    );
     tally
         .differences
         .iter()
@@ -161,7 +168,7 @@ fn compare(calls: u64, seed: u64, answers: Option<Answers>) -> Option<Option<Ans
         .for_each(|difference| println!("DIFFERENCE: {difference}"));
     let mut differences = tally.differences.len();
     let (mut compared, mut captures, mut halves, mut placed, mut readings) = (0, 0, 0, [0; 2], 0);
-    let mut salvaged = 0;
+    let (mut salvaged, mut restored) = (0, [0; 2]);
     while compared < calls && differences < SHOWN {
         let mut history = History::new(&mut random);
         if let Err(difference) = history.play(HISTORY.min(calls - compared), tally.answers.as_mut())
@@ -175,12 +182,14 @@ fn compare(calls: u64, seed: u64, answers: Option<Answers>) -> Option<Option<Ans
         placed = [0, 1].map(|what| placed[what] + history.placed[what]);
         readings += history.readings;
         salvaged += history.salvaged;
+        restored = [0, 1].map(|what| restored[what] + history.restored[what]);
     }
     println!(
         "histories: {compared} calls compared, {captures} whole captures, \
          {halves} files made while a capture was running, {} plates placed and {} turned away \
-         while a capture was held, {readings} files made of readings, {salvaged} scripts salvaged",
-        placed[0], placed[1]
+         while a capture was held, {readings} files made of readings, {salvaged} scripts salvaged, \
+         {} saves restored and {} files turned away that are none",
+        placed[0], placed[1], restored[0], restored[1]
     );
     println!(
         "seed {seed}: {} calls compared in all, {captures} whole captures, {differences} differences, {:.1} s",

@@ -5,6 +5,7 @@ use crate::photos;
 use crate::plates;
 use crate::random::Random;
 use crate::salvages;
+use crate::saves;
 use gulxinett::bytes;
 use second::{Frame, Salvaged, State};
 
@@ -71,6 +72,8 @@ impl Side {
             Call::Plate { seed } => self.file = plates::random_file(&mut Random::new(*seed)),
             Call::Script { seed } => self.file = salvages::random_file(&mut Random::new(*seed)),
             Call::Keep => self.keep(),
+            Call::KeepSave => self.file = saves::file_of(self),
+            Call::Damage { seed } => saves::damage(&mut self.file, &mut Random::new(*seed)),
             Call::Lend { what, length } => self.lent(*what).resize(*length, 0x3C),
             Call::Put { record } => self.state = record.to_vec(),
             _ => {}
@@ -126,12 +129,17 @@ impl Side {
             self.make_both_rooms(*room, *report);
             return bytes::salvage(&self.file, &mut self.out, &mut self.report).0;
         }
+        if let Call::Save { room } = call {
+            self.make_room(*room);
+            return bytes::save(&self.state, &self.ram, &self.store, &mut self.out).0;
+        }
         let Side {
             state,
             rom,
             ram,
             store,
             image,
+            file,
             picture,
             ..
         } = self;
@@ -143,6 +151,7 @@ impl Side {
             }
             Call::Tick { cycles } => bytes::tick(state, ram, store, *cycles),
             Call::Inspect => bytes::inspect(state),
+            Call::Restore => bytes::restore(file, state, ram, store),
             Call::Choose {
                 light,
                 level,
@@ -188,6 +197,13 @@ impl Side {
         if let Call::Salvage { room, report } = call {
             self.make_both_rooms(*room, *report);
             return self.salvage_second();
+        }
+        if let Call::Save { room } = call {
+            self.make_room(*room);
+            return self.save_second();
+        }
+        if let Call::Restore = call {
+            return self.restore_second();
         }
         let Some(mut state) = State::from_bytes(&self.state) else {
             return refused(1);
@@ -271,6 +287,26 @@ impl Side {
             |refusal| refused(refusal.number().into()),
             |Salvaged { length, lines }| lines as u64 * 65_536 + length as u64,
         )
+    }
+
+    fn save_second(&mut self) -> u64 {
+        let written = second::save(&self.state, &self.ram, &self.store, &mut self.out);
+        written.map_or_else(
+            |refusal| refused(refusal.number().into()),
+            |length| length as u64,
+        )
+    }
+
+    fn restore_second(&mut self) -> u64 {
+        let Side {
+            file,
+            state,
+            ram,
+            store,
+            ..
+        } = self;
+        let read = second::restore(file, state, ram, store);
+        read.map_or_else(|refusal| refused(refusal.number().into()), |()| 0)
     }
 
     fn draw_second(&mut self, of: Lent, registers: &[u8; 54]) -> u64 {
@@ -401,6 +437,16 @@ impl Pair {
             Call::Place => &[("RAM", &a.ram, &b.ram), ("file", &a.file, &b.file)],
             Call::Shades { .. } => &[("RAM", &a.ram, &b.ram), ("shades", &a.out, &b.out)],
             Call::Readings { .. } => &[("store", &a.store, &b.store), ("file", &a.out, &b.out)],
+            Call::Save { .. } => &[
+                ("RAM", &a.ram, &b.ram),
+                ("store", &a.store, &b.store),
+                ("save", &a.out, &b.out),
+            ],
+            Call::Restore => &[
+                ("RAM", &a.ram, &b.ram),
+                ("store", &a.store, &b.store),
+                ("file", &a.file, &b.file),
+            ],
             Call::Salvage { .. } => &[
                 ("script", &a.file, &b.file),
                 ("text", &a.out, &b.out),
