@@ -15,6 +15,7 @@ static uint8_t store[GULXINETT_FRAME_LEN], image[GULXINETT_FRAME_LEN], picture[G
 static uint8_t line[GULXINETT_LINE_LEN], plate[GULXINETT_PLATE_LEN], shades[GULXINETT_SHADES_LEN];
 static uint8_t photograph[15 + 3 * GULXINETT_FRAME_LEN] = "P6\n128 128\n255\n";
 static uint8_t script[GULXINETT_SCRIPT_LEN], text[GULXINETT_SCRIPT_LEN + 1], report[GULXINETT_SCRIPT_LEN];
+static uint8_t save[GULXINETT_SAVE_LEN + GULXINETT_RAM_BANK_LEN];
 static uint8_t room[ROOM];
 static ucontext_t here, there;
 
@@ -81,6 +82,8 @@ static void everything(void)
         gulxinett_shades(ram, sizeof ram, shades, sizeof shades);
         gulxinett_import_photo(photograph, sizeof photograph, image, sizeof image);
         salvage();
+        gulxinett_save(state, sizeof state, ram, sizeof ram, store, sizeof store, save, sizeof save);
+        gulxinett_restore(save, sizeof save, state, sizeof state, ram, sizeof ram, store, sizeof store);
     }
 }
 

@@ -28,6 +28,8 @@ for (let mode = 0; mode < 16; mode++) {
   cartridge.shades();
   cartridge.importPhoto();
   cartridge.salvage();
+  cartridge.save();
+  cartridge.restore();
 }
 const used = stack - lowest();
 console.log(`stack: calls in every mode used ${used} bytes of the browser module's ${stack}; ${allowed} were worked out`);

@@ -4,8 +4,8 @@ import { readFileSync } from "node:fs";
 const SIZES = {
   state: 121, ram: 8192, store: 16384, image: 16384, registers: 54, picture: 3584, line: 261, plate: 14351, photograph: 15 + 3 * 16384,
 };
-/** What a script is salvaged from and into, which is no part of a cartridge. */
-const SCRIPT_SIZES = { script: 32768, text: 32769, report: 32768 };
+/** What a script is salvaged from and into, and a save, which are no parts of a cartridge. */
+const SCRIPT_SIZES = { script: 32768, text: 32769, report: 32768, save: 16516 + 8192 };
 const PAGE = 65536;
 const TRIGGER = 0xa000;
 
@@ -60,6 +60,8 @@ export function lend(path) {
     /** Takes the plate's room too. */
     readings: () => value(call.gulxinett_readings(...lent("state", "store", "plate"))),
     importPhoto: () => value(call.gulxinett_import_photo(...lent("photograph", "image"))),
+    save: () => value(call.gulxinett_save(...lent("state", "ram", "store", "save"))),
+    restore: () => value(call.gulxinett_restore(...lent("save", "state", "ram", "store"))),
     /** A script of a reset and reads, eight times, and empty lines after it. */
     salvage() {
       view("script").fill(10).set(new TextEncoder().encode(("00\n" + "01A000\n".repeat(500)).repeat(8)));
