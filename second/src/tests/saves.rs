@@ -164,7 +164,7 @@ fn writing_is_refused_in_order_and_keeps_the_buffer() {
     let mut broken = saved.record;
     broken[2] = 64;
     let mut other_layout = saved.record;
-    other_layout[0] = 2;
+    other_layout[0] = LAYOUT - 1;
     let short = &saved.record[..RECORD_BYTES - 1];
     for record in [&saved.record[..], &broken, &other_layout, short, &[]] {
         for ram in [&saved.ram[..], &saved.ram[1..], &[]] {
@@ -277,8 +277,8 @@ fn a_right_checksum_alone_makes_no_save() {
         (6, 255),
         (7, 0),
         (7, 1),
-        (7, 2),
-        (7, 4),
+        (7, LAYOUT - 1),
+        (7, LAYOUT + 1),
         (8, 2),
         (9, 64),
         (10, 32),
