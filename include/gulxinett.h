@@ -70,7 +70,7 @@ extern "C" {
 /* Bytes of stack below the caller's frame that suffice for any call here, compiled for x86-64, for
  * aarch64 or for the browser. No function here recurs, and what is large is lent; tests/stack works
  * the need of each function out from the compiled frames. */
-#define GULXINETT_STACK 8192
+#define GULXINETT_STACK 24576
 
 /* A save has its RAM's length and SAVE_LEN bytes more: the magic, the RAM's banks, the state record from
  * SAVE_STATE_OFFSET on, the RAM from SAVE_RAM_OFFSET on, the frame store, the CRC-32. The largest RAM

@@ -5,7 +5,7 @@ use native.Mathlib.Omega.{arith}
 use borrow.Author.Needs.{needs}
 use Rattle.lines.specs.declared.record.Recorded.{Recorded}
 use Rattle.lines.specs.Record.{recorded}
-use Rattle.embed.specs.Exports.{asLine}
+use Rattle.answers.specs.Packed.{packed}
 use Rattle.answers.proofs.line_answer.Statement.{statement}
 use Rattle.answers.proofs.line_answer.Tie as tie
 
@@ -18,5 +18,5 @@ line-answer-spec =
     (λ c κs. search needs)
     (λ c. search needs)
     (λ c κs. search needs)
-    (λ c. c .pack .ensures ∙ sym (ap (λ (x : Recorded). asLine (recorded x []) .answer) (c .before .before .a .given .1)))
-    (λ c. c .refused .ensures ∙ sym (ap (λ (x : Recorded). asLine (recorded x []) .answer) (c .before .before .a2 .given .1))))
+    (λ c. c .pack .ensures ∙ sym (ap (λ (x : Recorded). packed (recorded x [] .number) (recorded x [] .length)) (c .before .before .a .given .1)))
+    (λ c. c .refused .ensures ∙ sym (ap (λ (x : Recorded). packed (recorded x [] .number) (recorded x [] .length)) (c .before .before .a2 .given .1))))
