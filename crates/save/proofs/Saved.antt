@@ -11,10 +11,9 @@ use Rattle.crc.specs.Crc.{crcOf}
 use Rattle.laws.proofs.Bools.{both-left, not-fails}
 use Rattle.timing.specs.Lent.{ramAllowed, frameAllowed}
 use Rattle.timing.proofs.Lent.{ram-lent}
-use Rattle.controller.specs.State.{canExist}
 use Rattle.controller.specs.Table.{lowest}
 use Rattle.controller.proofs.Refusals.{Refuses, refuses, risingFrom, first-fails}
-use Rattle.layout.specs.Layout.{lowFirst, isRecord, decoded}
+use Rattle.layout.specs.Layout.{lowFirst, isRecord}
 use Rattle.layout.proofs.Inverse.{record-parts}
 use Rattle.shades.specs.Shades.{exported}
 use Rattle.shades.proofs.Outputs.{inExported}
@@ -77,7 +76,7 @@ save-fits s ram store out e =
 -- state bytes are 121
 pub state-record : (s : List ℕ) → isState s ≡ true → isRecord s ≡ true
 unfolding isState
-state-record s e = both-left (isRecord s) (canExist (decoded s)) e
+state-record s e = both-left (isRecord s) _ e
 
 pub state-long : (s : List ℕ) → isState s ≡ true → length s ≡ 121
 state-long s e = record-parts s (state-record s e) .long

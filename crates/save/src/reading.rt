@@ -58,7 +58,9 @@ fn is_whole(file: &[u8], end: usize) -> bool
     requires { ⌜ end + 4 ≤ length (now file) ⌝ }
     ensures { λ r. ⌜ r ≡ eqb (fourAt (now (file .entry)) end) (crcOf (take end (now (file .entry)))) ⌝ }
 {
-    four_at(file, end) == crc32(&file[0..end])
+    let given = four_at(file, end);
+    let sum = crc32(&file[0..end]);
+    given == sum
 }
 
 // Whether a file is a save.
