@@ -8,6 +8,7 @@ TypeError or ValueError. Either way nothing has changed.
 """
 
 import ctypes
+import itertools
 import operator
 import os
 import platform
@@ -256,11 +257,15 @@ def salvage(script):
     return Salvaged(bytes(text[:length]), bytes(report[:lines]))
 
 
+# Tells the writes of this process apart, which may overlap.
+_written = itertools.count()
+
+
 def write_whole(path, data):
     """Writes a file so that a kill at any moment leaves the old one or the new one, whole: beside it, flushed to the disk,
-    then renamed over it. What a kill leaves beside it, `.PROCESS.part` after its name, may be removed."""
+    then renamed over it. What a kill leaves beside it, `.PROCESS-NUMBER.part` after its name, may be removed."""
     path = os.fspath(path)
-    beside = "%s.%d.part" % (os.fsdecode(path), os.getpid())
+    beside = "%s.%d-%d.part" % (os.fsdecode(path), os.getpid(), next(_written))
     try:
         with open(beside, "wb") as file:
             file.write(data)

@@ -4,10 +4,14 @@ use std::ffi::OsString;
 use std::fs::{self, File};
 use std::io::{self, Write};
 use std::path::{Path, PathBuf};
+use std::sync::atomic::{AtomicU64, Ordering};
+
+/// Tells the writes of this process apart, which may overlap.
+static WRITTEN: AtomicU64 = AtomicU64::new(0);
 
 /// Writes a file so that a kill at any moment leaves the old one or the new one, whole: beside it, flushed to
 /// the disk, then renamed over it. Two processes that write one file at once each leave theirs or the
-/// other's. What a kill leaves beside it, `.PROCESS.part` after its name, may be removed.
+/// other's. What a kill leaves beside it, `.PROCESS-NUMBER.part` after its name, may be removed.
 pub fn write_whole(path: impl AsRef<Path>, bytes: &[u8]) -> io::Result<()> {
     let path = path.as_ref();
     let beside = beside(path)?;
@@ -20,11 +24,12 @@ pub fn write_whole(path: impl AsRef<Path>, bytes: &[u8]) -> io::Result<()> {
     flush_folder(path)
 }
 
-/// A name in the same folder that no other process takes.
+/// A name in the same folder that no other process takes, nor another write of this one.
 fn beside(path: &Path) -> io::Result<PathBuf> {
     let no_name = || io::Error::new(io::ErrorKind::InvalidInput, "the path names no file");
     let mut name = OsString::from(path.file_name().ok_or_else(no_name)?);
-    name.push(format!(".{}.part", std::process::id()));
+    let number = WRITTEN.fetch_add(1, Ordering::Relaxed);
+    name.push(format!(".{}-{number}.part", std::process::id()));
     Ok(path.with_file_name(name))
 }
 
