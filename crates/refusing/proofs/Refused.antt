@@ -11,6 +11,8 @@ use lib.ListN.{length, drop}
 use Rattle.laws.specs.Pick.{pick}
 use Rattle.laws.proofs.Bools.{either}
 use Rattle.tiles.specs.Tiles.{Bytes}
+use Rattle.lighting.specs.Taken.{settingOf}
+use Rattle.lighting.specs.Light.{byteAt, litOf}
 use Rattle.tiles.specs.Picture.{pictureOf}
 use Rattle.matrix.specs.Matrix.{firstIn}
 use Rattle.controller.specs.declared.Refusal.the-variants.{State}
@@ -129,7 +131,7 @@ write-refused s ram store image a v bytes =
     called-refused s ram store bytes (write-refuses (decoded s) ram store image a v) (write-unread s ram store image a v) (write-done s ram store image a v) (write-says s ram store image a v) refl
 
 pub tick-refused : (s ram store : List ℕ) (n : ℕ) → Bytes s → n < 4294967296
-    → Refuses (tickTable s ram store) inCalled (leaves s ram store) (tickBytes s ram store n) (asBytes (ticked store (ticks store n (from (decoded s) ram))))
+    → Refuses (tickTable s ram store) inCalled (leaves s ram store) (tickBytes s ram store n) (asBytes (ticked store (ticks (byteAt store) n (from (decoded s) ram))))
 unfolding tickTable tickRows risingFrom
 tick-refused s ram store n bytes l =
     called-refused s ram store bytes (tick-refuses (decoded s) ram store n) (tick-unread s ram store n) (tick-done s ram store n) (tick-says s ram store n l) refl
@@ -152,13 +154,13 @@ inspect-refused s =
     over-record s (inspect-refuses (decoded s)) inspected numberIn (λ n. packed n 0) (inspect-unread s) (inspect-done s) (λ h n. refl) (packed-number 1) (λ h. inspect-says s h .number) refl
 
 pub readings-refused : (s store out : List ℕ)
-    → Refuses (readingsTable s store out) inFilled (leavesBuffer out) (readingsBytes s store out) (filled (packed 0 14351) (readingsOf store (decoded s .taken) ++ drop 14351 out))
+    → Refuses (readingsTable s store out) inFilled (leavesBuffer out) (readingsBytes s store out) (filled (packed 0 14351) (readingsOf (byteAt store) (decoded s .taken) ++ drop 14351 out))
 unfolding readingsTable readingRows risingFrom
 readings-refused s store out =
     over-record s (readings-refuse (decoded s) store out) asWritten inFilled (leavesBuffer out) (readings-unread s store out) (readings-done s store out) (λ h n. refl) (packed-number 1) (λ h. readings-says s store out h .number) refl
 
 pub picture-refused : (frame registers picture : List ℕ)
-    → Refuses (pictureRows frame) inFilled (leavesBuffer picture) (pictureBytes frame registers picture) (filled (packed 0 0) (pictureOf frame registers))
+    → Refuses (pictureRows frame) inFilled (leavesBuffer picture) (pictureBytes frame registers picture) (filled (packed 0 0) (pictureOf (litOf frame (settingOf registers)) registers))
 unfolding pictureBytes
 picture-refused frame registers picture =
     carried (picture-refuses frame registers picture) asDrawn inFilled (leavesBuffer picture) (λ k. refl) (packed-number _)

@@ -6,6 +6,7 @@ use lib.ListN.{length}
 use Rattle.controller.specs.declared.Refusal.the-variants as refusals
 use Rattle.controller.specs.Table.{Row, row, noFrame}
 use Rattle.cartridge.specs.Bus.{byteWritten}
+use Rattle.lighting.specs.Light.{byteAt}
 use Rattle.capture.specs.Capture.{ticks, from}
 use Rattle.cartridge.specs.Calls.{readRows, byteOf, writeRows, wrote}
 use Rattle.capture.specs.Calls.{tickRows, ticked}
@@ -37,7 +38,7 @@ unfoldable pub lineDone : List ℕ → List ℕ → World → Frame → Step
 lineDone rom line w Reset = resetStep w
 lineDone rom line w (Read a) = afterRead w (byteOf (w .state) rom (w .ram) a)
 lineDone rom line w (Write a v) = afterWrite w (wrote (byteWritten (w .state) (w .ram) (w .store) (w .image) a v))
-lineDone rom line w (Tick n) = afterTick w (ticked (w .store) (ticks (w .store) n (from (w .state) (w .ram))))
+lineDone rom line w (Tick n) = afterTick w (ticked (w .store) (ticks (byteAt (w .store)) n (from (w .state) (w .ram))))
 lineDone rom line w (RowFrame y) =
     step (world (w .state) (w .ram) (w .store) (rowTaken line y 128 (w .image))) (answerText 0 0 0)
 lineDone rom line w Malformed = step w (answerText 0 0 0)
