@@ -68,8 +68,9 @@ extern "C" {
 #define GULXINETT_SCRIPT_LEN 32768
 
 /* Bytes of stack below the caller's frame that suffice for any call here, compiled for x86-64, for
- * aarch64 or for the browser. No function here recurs, and what is large is lent; tests/stack works
- * the need of each function out from the compiled frames. */
+ * aarch64 or for the browser. No function here recurs, and what is large is lent, but for the light
+ * of an image in gulxinett_picture; tests/stack works the need of each function out from the
+ * compiled frames. */
 #define GULXINETT_STACK 24576
 
 /* A save has its RAM's length and SAVE_LEN bytes more: the magic, the RAM's banks, the state record from
