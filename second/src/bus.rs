@@ -1,7 +1,11 @@
 //! The calls: bus reads and writes, the passing of cycles, and matrix inspection.
 
-use crate::picture::PLATE_AREA;
-use crate::{picture, Refusal, State, Timing, FRAME_BYTES, RAM_BANK, REGISTERS, ROM_BANK};
+use crate::capture::Timing;
+use crate::lent::{check_frame, check_ram, check_rom};
+use crate::picture::{self, PLATE_AREA};
+use crate::refusal::Refusal;
+use crate::sizes::{RAM_BANK, REGISTERS, ROM_BANK};
+use crate::state::State;
 
 const WINDOW: u16 = 0xA000;
 const REGISTER_MIRROR: usize = 0x80;
@@ -23,33 +27,6 @@ impl Area {
             _ => Err(Refusal::Address),
         }
     }
-}
-
-/// Whether a length is one to `most` banks, their count a power of two.
-fn banked(length: usize, bank: usize, most: usize) -> bool {
-    let banks = length / bank;
-    length % bank == 0 && banks.is_power_of_two() && banks <= most
-}
-
-/// Refuses a ROM length that is not allowed.
-fn check_rom(rom: &[u8]) -> Result<(), Refusal> {
-    banked(rom.len(), ROM_BANK, 64)
-        .then_some(())
-        .ok_or(Refusal::Rom)
-}
-
-/// Refuses a RAM length that is not allowed.
-pub(crate) fn check_ram(ram: &[u8]) -> Result<(), Refusal> {
-    banked(ram.len(), RAM_BANK, 16)
-        .then_some(())
-        .ok_or(Refusal::Ram)
-}
-
-/// Refuses an image or frame store of another size.
-pub(crate) fn check_frame(frame: &[u8]) -> Result<(), Refusal> {
-    (frame.len() == FRAME_BYTES)
-        .then_some(())
-        .ok_or(Refusal::Frame)
 }
 
 /// Where in RAM the window shows an offset; banks repeat when there are fewer than 16, and their

@@ -1,6 +1,7 @@
 //! When a capture does what, from the registers taken at its start.
 
-use crate::{picture, REGISTERS, SENSOR_WIDTH};
+use crate::picture;
+use crate::sizes::{REGISTERS, SENSOR_WIDTH};
 use std::ops::Range;
 
 /// The timing of one capture, in cartridge cycles; two make one sensor clock.

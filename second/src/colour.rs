@@ -1,7 +1,8 @@
 //! Colour photographs, Netpbm files of kind P6, as images.
 
-use crate::bus::check_frame;
-use crate::{Refusal, FRAME_BYTES};
+use crate::lent::check_frame;
+use crate::refusal::Refusal;
+use crate::sizes::FRAME_BYTES;
 
 /// The most a header may have, with the white space byte that ends it.
 const LONGEST_HEADER: usize = 256;

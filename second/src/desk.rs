@@ -2,7 +2,8 @@
 
 use crate::levels::{CONTRAST_LEVELS, LEVELS, LIGHT_SETS, MATRIX_BYTES};
 use crate::picture::MATRIX;
-use crate::{Refusal, State};
+use crate::refusal::Refusal;
+use crate::state::State;
 
 /// The exposure when none is named: the first value the ROM sets.
 const UNNAMED_EXPOSURE: u16 = 0x1000;

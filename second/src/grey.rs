@@ -1,8 +1,11 @@
 //! The picture area as a grey image, a Netpbm file of kind P5, out and in, and as shades; the readings too.
 
-use crate::bus::{check_frame, check_ram};
-use crate::picture::{self, gather, OCTET, PLATE_AREA, TILE};
-use crate::{Plate, Refusal, State, PICTURE_WIDTH, PIXELS, PLATE_BYTES};
+use crate::lent::{check_frame, check_ram};
+use crate::picture::{
+    self, gather, Plate, OCTET, PICTURE_WIDTH, PIXELS, PLATE_AREA, PLATE_BYTES, TILE,
+};
+use crate::refusal::Refusal;
+use crate::state::State;
 use std::ops::Range;
 
 /// What every file starts with.

@@ -7,6 +7,9 @@
 //! grey image of the values before the dots, and [`import`] an image of a colour photograph.
 //! [`choose`] sets a contrast level by its number. [`save()`] and [`restore`] have state, RAM and frame store
 //! as one file, with a checksum, [`crc32`].
+//!
+//! The modules from the bottom up, each of which uses only those named before it:
+//! sizes, refusal, levels, lines, crc, lent, picture, capture, state, bus, colour, desk, grey, save, script, salvage.
 
 #![forbid(unsafe_code)]
 
@@ -16,6 +19,7 @@ mod colour;
 mod crc;
 mod desk;
 mod grey;
+mod lent;
 mod levels;
 mod lines;
 mod picture;
@@ -23,6 +27,7 @@ mod refusal;
 mod salvage;
 mod save;
 mod script;
+mod sizes;
 mod state;
 #[cfg(test)]
 mod tests;
@@ -42,15 +47,5 @@ pub use refusal::Refusal;
 pub use salvage::{salvage, Salvaged, LONGEST_SCRIPT};
 pub use save::{restore, save, SAVE_BYTES};
 pub use script::{Frame, Session};
-pub use state::{State, LAYOUT, RECORD_BYTES, REGISTERS};
-
-/// Bytes in one ROM bank.
-pub const ROM_BANK: usize = 16_384;
-/// Bytes in one RAM bank.
-pub const RAM_BANK: usize = 8_192;
-/// Pixels in a row of the sensor.
-pub const SENSOR_WIDTH: usize = 128;
-/// Rows of the sensor.
-pub const SENSOR_HEIGHT: usize = 128;
-/// Bytes in an image and in the frame store.
-pub const FRAME_BYTES: usize = SENSOR_WIDTH * SENSOR_HEIGHT;
+pub use sizes::{FRAME_BYTES, RAM_BANK, REGISTERS, ROM_BANK, SENSOR_HEIGHT, SENSOR_WIDTH};
+pub use state::{State, LAYOUT, RECORD_BYTES};

@@ -2,8 +2,9 @@
 //!
 //! A store has for each pixel the value 0 to 255 that step 3 has before 128 is subtracted.
 
-use crate::bus::check_frame;
-use crate::{Refusal, FRAME_BYTES, REGISTERS, SENSOR_WIDTH};
+use crate::lent::check_frame;
+use crate::refusal::Refusal;
+use crate::sizes::{FRAME_BYTES, REGISTERS, SENSOR_WIDTH};
 use std::ops::Range;
 
 /// Pixels in a row of the picture.

@@ -1,6 +1,8 @@
 //! Cleaning a script of malformed lines and of repetitions.
 
-use crate::{Frame, Lines, Refusal};
+use crate::lines::Lines;
+use crate::refusal::Refusal;
+use crate::script::Frame;
 
 /// The most bytes of a script that is cleaned.
 pub const LONGEST_SCRIPT: usize = 32_768;

@@ -1,8 +1,10 @@
 //! State, RAM and frame store of one moment as one file.
 
-use crate::bus::{check_frame, check_ram};
 use crate::crc::crc32;
-use crate::{Refusal, State, FRAME_BYTES, RAM_BANK, RECORD_BYTES};
+use crate::lent::{check_frame, check_ram};
+use crate::refusal::Refusal;
+use crate::sizes::{FRAME_BYTES, RAM_BANK};
+use crate::state::{State, RECORD_BYTES};
 
 /// What every save starts with.
 const MAGIC: &[u8] = b"GXSAVE";

@@ -1,7 +1,9 @@
 //! The bus script: one frame a line, one answer a line.
 
 use crate::bus::{read_judged, tick_judged, write_judged};
-use crate::{Refusal, State, FRAME_BYTES, RAM_BANK, ROM_BANK, SENSOR_WIDTH};
+use crate::refusal::Refusal;
+use crate::sizes::{FRAME_BYTES, RAM_BANK, ROM_BANK, SENSOR_WIDTH};
+use crate::state::State;
 
 /// The last row of the image.
 const LAST_ROW: u8 = 0x7F;

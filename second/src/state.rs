@@ -1,9 +1,9 @@
 //! The state record.
 
-use crate::{Refusal, Timing};
+use crate::capture::Timing;
+use crate::refusal::Refusal;
+use crate::sizes::REGISTERS;
 
-/// Camera registers.
-pub const REGISTERS: usize = 54;
 /// Bytes of the record as [`State::to_bytes`] lays it out.
 pub const RECORD_BYTES: usize = 13 + 2 * REGISTERS;
 /// The number of that layout, which the record begins with.

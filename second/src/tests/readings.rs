@@ -2,14 +2,14 @@
 
 use super::random::Random;
 use super::slow::{registers, shade, started, value, Source};
-use crate::{export_readings, shades, tick, write, Refusal, State, Timing};
+use crate::{export_readings, picture, shades, tick, write, Refusal, State, Timing};
 
 const FILE: usize = 14_351;
 /// What the buffers hold before.
 const BEFORE: u8 = 0xA5;
 
 /// The pixels of the export, after seeing that it is a header, they, and no byte more.
-pub fn readings(state: &State, store: &[u8]) -> Vec<u8> {
+fn readings(state: &State, store: &[u8]) -> Vec<u8> {
     let mut buffer = vec![BEFORE; FILE + 9];
     export_readings(state, store, &mut buffer).unwrap();
     assert_eq!(buffer[..15], *b"P5\n128 112\n255\n");
@@ -109,6 +109,38 @@ fn neither_cycles_nor_new_registers_count() {
     state.registers = random.bytes(54).try_into().unwrap();
     state.registers[0] = 2;
     assert!(readings(&state, &store) == values, "stopped too");
+}
+
+#[test]
+fn only_rows_7_to_120_count() {
+    let mut random = Random::new(4);
+    for setting in 0..64_u8 {
+        let mut taken = registers(&mut random, setting % 16);
+        taken[0] = 2 * (setting / 16) + 1;
+        let mut frame = random.bytes(16_384);
+        let plate = picture(&frame, &taken).unwrap();
+        let before = readings(&started(&taken), &frame);
+        frame[..7 * 128].copy_from_slice(&random.bytes(7 * 128));
+        frame[121 * 128..].copy_from_slice(&random.bytes(7 * 128));
+        assert_eq!(picture(&frame, &taken).unwrap(), plate);
+        assert!(readings(&started(&taken), &frame) == before);
+    }
+}
+
+#[test]
+fn rows_7_and_120_do_count() {
+    // Mode D at 500 per cent looks above and below, mode 0 with the difference below only.
+    for (registers, rows) in [([0xC0, 0xF0], [7, 120]), ([0, 0], [119, 120])] {
+        let mut taken = [0; 54];
+        (taken[0], taken[2]) = (5, 1);
+        (taken[1], taken[4]) = (registers[0], registers[1]);
+        let level = readings(&started(&taken), &[128; 16_384]);
+        for row in rows {
+            let mut frame = [128; 16_384];
+            frame[row * 128 + 50] = 200;
+            assert!(readings(&started(&taken), &frame) != level, "row {row}");
+        }
+    }
 }
 
 #[test]

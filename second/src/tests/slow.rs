@@ -1,7 +1,6 @@
 //! The capture cycle by cycle and pixel by pixel, straight from the paper, against the fast one.
 
 use super::random::Random;
-use super::readings::readings;
 use crate::{picture, tick, write, State, Timing, PLATE_OFFSET};
 
 /// What the pixels of a capture are read from.
@@ -293,38 +292,6 @@ fn every_setting_of_the_filters() {
                     "{setting:X}"
                 );
             }
-        }
-    }
-}
-
-#[test]
-fn only_rows_7_to_120_count() {
-    let mut random = Random::new(4);
-    for setting in 0..64_u8 {
-        let mut taken = registers(&mut random, setting % 16);
-        taken[0] = 2 * (setting / 16) + 1;
-        let mut frame = random.bytes(16_384);
-        let plate = picture(&frame, &taken).unwrap();
-        let before = readings(&started(&taken), &frame);
-        frame[..7 * 128].copy_from_slice(&random.bytes(7 * 128));
-        frame[121 * 128..].copy_from_slice(&random.bytes(7 * 128));
-        assert_eq!(picture(&frame, &taken).unwrap(), plate);
-        assert!(readings(&started(&taken), &frame) == before);
-    }
-}
-
-#[test]
-fn rows_7_and_120_do_count() {
-    // Mode D at 500 per cent looks above and below, mode 0 with the difference below only.
-    for (registers, rows) in [([0xC0, 0xF0], [7, 120]), ([0, 0], [119, 120])] {
-        let mut taken = [0; 54];
-        (taken[0], taken[2]) = (5, 1);
-        (taken[1], taken[4]) = (registers[0], registers[1]);
-        let level = readings(&started(&taken), &[128; 16_384]);
-        for row in rows {
-            let mut frame = [128; 16_384];
-            frame[row * 128 + 50] = 200;
-            assert!(readings(&started(&taken), &frame) != level, "row {row}");
         }
     }
 }
