@@ -10,6 +10,7 @@
 
 mod answers;
 mod call;
+mod files;
 mod history;
 mod lines;
 mod photos;

@@ -1,10 +1,11 @@
 //! Saves written and read: every refusal, every size, files that are nearly saves, and damages.
 
 use crate::call::Call;
+use crate::files::save::{damage, seal};
 use crate::random::Random;
 use crate::sides::{Beginning, Pair, Side};
 use crate::sweep::{lowest, records, Tally, FRAMES, RAMS};
-use second::{crc32, State, RECORD_BYTES, SAVE_BYTES};
+use second::{State, RECORD_BYTES, SAVE_BYTES};
 
 /// Banks that a RAM can have.
 const BANKS: [usize; 5] = [1, 2, 4, 8, 16];
@@ -40,47 +41,6 @@ pub fn compare(tally: &mut Tally, random: &mut Random) -> u64 {
     saves.nearly();
     saves.damages(random);
     saves.restored
-}
-
-/// The save of what a side has; no bytes if there is none.
-pub fn file_of(side: &Side) -> Vec<u8> {
-    let mut file = vec![0; SAVE_BYTES + side.ram.len()];
-    match second::save(&side.state, &side.ram, &side.store, &mut file) {
-        Ok(_) => file,
-        Err(_) => Vec::new(),
-    }
-}
-
-/// Cuts, holes, exchanged pieces or bits; with luck the file stays as it is.
-pub fn damage(file: &mut Vec<u8>, random: &mut Random) {
-    if file.is_empty() {
-        return;
-    }
-    let length = file.len() as u32;
-    let from = random.below(length) as usize;
-    let to = (from + 1 + random.below(3_000) as usize).min(file.len());
-    match random.below(8) {
-        0 => file.truncate(from),
-        1 => file[from..to].fill(0),
-        2 => drop(file.drain(from..to)),
-        3 => file.extend_from_within(from..to),
-        4 => random.fill(&mut file[from..to]),
-        5 => file[random.below(length.min(128)) as usize] = random.byte(),
-        6 => {
-            // a right checksum over what may be no save
-            file[random.below(length.min(128)) as usize] = random.byte();
-            seal(file);
-        }
-        _ => file[from] ^= 1 << random.below(8),
-    }
-}
-
-/// Puts the checksum at the end right.
-fn seal(file: &mut [u8]) {
-    if let Some(end) = file.len().checked_sub(4) {
-        let checksum = crc32(&file[..end]).to_le_bytes();
-        file[end..].copy_from_slice(&checksum);
-    }
 }
 
 impl Saves<'_> {
@@ -127,7 +87,7 @@ impl Saves<'_> {
     /// is no save as 8.
     fn reading_refusals(&mut self) {
         let good = self.side.clone();
-        let whole = file_of(&good);
+        let whole = good.saved();
         let mut bad = whole.clone();
         bad[SAVE_BYTES] ^= 0x20;
         let longer = [&whole[..], &[0]].concat();
@@ -181,7 +141,7 @@ impl Saves<'_> {
                 random.fill(&mut self.side.store);
                 let length = SAVE_BYTES + self.side.ram.len();
                 self.save(length, None);
-                self.side.file = file_of(&self.side);
+                self.side.file = self.side.saved();
                 for lent in BANKS {
                     self.side.ram.resize(lent * second::RAM_BANK, 0);
                     random.fill(&mut self.side.ram);
@@ -196,7 +156,7 @@ impl Saves<'_> {
     /// Files with a right checksum that are no saves: each byte before the RAM made another.
     fn nearly(&mut self) {
         let good = self.side.clone();
-        let whole = file_of(&good);
+        let whole = good.saved();
         for place in 0..128 {
             for byte in [0, 1, 2, 3, 4, 8, 16, 32, 64, 255, whole[place] ^ 0x20] {
                 self.side.file = whole.clone();
@@ -230,7 +190,7 @@ impl Saves<'_> {
         (state.held, state.elapsed) = (true, 77);
         (state.registers[0], state.taken[0]) = (2, 3);
         self.side.state = state.to_bytes().to_vec();
-        let whole = file_of(&self.side);
+        let whole = self.side.saved();
         for _ in 0..DAMAGED {
             self.side.file = whole.clone();
             damage(&mut self.side.file, random);

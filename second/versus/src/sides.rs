@@ -1,11 +1,8 @@
 //! The two sides: the archive and the second program, each with memory of its own.
 
 use crate::call::{hex, Call, Lent};
-use crate::photos;
-use crate::plates;
+use crate::files::{photo, plate, save, script};
 use crate::random::Random;
-use crate::salvages;
-use crate::saves;
 use gulxinett::bytes;
 use second::{Frame, Salvaged, State};
 
@@ -68,12 +65,12 @@ impl Side {
     fn arrange(&mut self, call: &Call) {
         match call {
             Call::Image { kind, seed } => paint(&mut self.image, *kind, *seed),
-            Call::File { seed } => self.file = photos::random_file(&mut Random::new(*seed)),
-            Call::Plate { seed } => self.file = plates::random_file(&mut Random::new(*seed)),
-            Call::Script { seed } => self.file = salvages::random_file(&mut Random::new(*seed)),
+            Call::File { seed } => self.file = photo::random(&mut Random::new(*seed)),
+            Call::Plate { seed } => self.file = plate::random(&mut Random::new(*seed)),
+            Call::Script { seed } => self.file = script::random(&mut Random::new(*seed)),
             Call::Keep => self.keep(),
-            Call::KeepSave => self.file = saves::file_of(self),
-            Call::Damage { seed } => saves::damage(&mut self.file, &mut Random::new(*seed)),
+            Call::KeepSave => self.file = self.saved(),
+            Call::Damage { seed } => save::damage(&mut self.file, &mut Random::new(*seed)),
             Call::Lend { what, length } => self.lent(*what).resize(*length, 0x3C),
             Call::Put { record } => self.state = record.to_vec(),
             _ => {}
@@ -85,6 +82,15 @@ impl Side {
         self.file = vec![0; second::GREY_FILE_BYTES];
         if second::export(&self.ram, &mut self.file).is_err() {
             self.file.clear();
+        }
+    }
+
+    /// The save of state, RAM and frame store; no bytes if there is none.
+    pub fn saved(&self) -> Vec<u8> {
+        let mut file = vec![0; second::SAVE_BYTES + self.ram.len()];
+        match second::save(&self.state, &self.ram, &self.store, &mut file) {
+            Ok(_) => file,
+            Err(_) => Vec::new(),
         }
     }
 
