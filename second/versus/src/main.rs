@@ -29,6 +29,7 @@ use call::Call;
 use history::History;
 use random::Random;
 use sides::{Beginning, Pair};
+use std::fmt::Display;
 use std::process::ExitCode;
 use std::time::Instant;
 use sweep::Tally;
@@ -103,65 +104,7 @@ fn compare(calls: u64, seed: u64, answers: Option<Answers>) -> Option<Option<Ans
         answers,
         ..Tally::default()
     };
-    sweep::refusals(&mut tally);
-    println!("refusal combinations: {} calls compared", tally.compared);
-    let refusals = tally.compared;
-    sweep::pictures(&mut tally, &mut random);
-    println!(
-        "picture settings: {} calls compared",
-        tally.compared - refusals
-    );
-    compare_lines(&mut tally, &mut random);
-    let before = tally.compared;
-    sweep::exports(&mut tally, &mut random);
-    println!(
-        "plates as files and shades: {} calls compared",
-        tally.compared - before
-    );
-    let before = tally.compared;
-    let placed = plates::compare(&mut tally, &mut random);
-    println!(
-        "plates placed: {} calls compared, {placed} of them of files that are placed",
-        tally.compared - before
-    );
-    let before = tally.compared;
-    sweep::readings(&mut tally, &mut random);
-    println!("readings: {} calls compared", tally.compared - before);
-    let before = tally.compared;
-    sweep::starts(&mut tally, &mut random);
-    println!(
-        "captures begun by a start: {} calls compared",
-        tally.compared - before
-    );
-    let before = tally.compared;
-    let [first, last] = rows::compare(&mut tally, &mut random);
-    println!(
-        "rows outside 7 to 120: {} calls compared; row 7 changes the picture in {first} of 64 settings, \
-         row 120 in {last}",
-        tally.compared - before
-    );
-    let before = tally.compared;
-    sweep::choices(&mut tally);
-    println!("choices: {} calls compared", tally.compared - before);
-    let before = tally.compared;
-    let read = photos::compare(&mut tally, &mut random);
-    println!(
-        "photographs: {} calls compared, {read} of them of files that are read",
-        tally.compared - before
-    );
-    let before = tally.compared;
-    let [salvaged, halved] = salvages::compare(&mut tally, &mut random);
-    println!(
-        "scripts salvaged: {} calls compared, {salvaged} of them not refused, and {halved} of these with \
-         lines dropped as repeated",
-        tally.compared - before
-    );
-    let before = tally.compared;
-    let restored = saves::compare(&mut tally, &mut random);
-    println!(
-        "saves: {} calls compared, {restored} of them of files that are read",
-        tally.compared - before
-    );
+    sweeps(&mut tally, &mut random);
     tally
         .differences
         .iter()
@@ -200,15 +143,74 @@ fn compare(calls: u64, seed: u64, answers: Option<Answers>) -> Option<Option<Ans
     (differences == 0).then_some(tally.answers)
 }
 
+/// Every sweep there is, and a line about each.
+fn sweeps(tally: &mut Tally, random: &mut Random) {
+    told(tally, "refusal combinations", |tally| {
+        sweep::refusals(tally);
+        ""
+    });
+    told(tally, "picture settings", |tally| {
+        sweep::pictures(tally, random);
+        ""
+    });
+    told(tally, "lines written", |tally| {
+        compare_lines(tally, random);
+        ""
+    });
+    told(tally, "plates as files and shades", |tally| {
+        sweep::exports(tally, random);
+        ""
+    });
+    told(tally, "plates placed", |tally| {
+        let placed = plates::compare(tally, random);
+        format!(", {placed} of them of files that are placed")
+    });
+    told(tally, "readings", |tally| {
+        sweep::readings(tally, random);
+        ""
+    });
+    told(tally, "captures begun by a start", |tally| {
+        sweep::starts(tally, random);
+        ""
+    });
+    told(tally, "rows outside 7 to 120", |tally| {
+        let [first, last] = rows::compare(tally, random);
+        format!("; row 7 changes the picture in {first} of 64 settings, row 120 in {last}")
+    });
+    told(tally, "choices", |tally| {
+        sweep::choices(tally);
+        ""
+    });
+    told(tally, "photographs", |tally| {
+        let read = photos::compare(tally, random);
+        format!(", {read} of them of files that are read")
+    });
+    told(tally, "scripts salvaged", |tally| {
+        let [salvaged, halved] = salvages::compare(tally, random);
+        format!(
+            ", {salvaged} of them not refused, and {halved} of these with lines dropped as repeated"
+        )
+    });
+    told(tally, "saves", |tally| {
+        let restored = saves::compare(tally, random);
+        format!(", {restored} of them of files that are read")
+    });
+}
+
+/// Makes a sweep and says how many calls it compared, and what it has to say itself.
+fn told<More: Display>(tally: &mut Tally, name: &str, sweep: impl FnOnce(&mut Tally) -> More) {
+    let before = tally.compared;
+    let more = sweep(tally);
+    println!("{name}: {} calls compared{more}", tally.compared - before);
+}
+
 /// Frames written as lines: some with all that is lent around them, and every one there is.
 fn compare_lines(tally: &mut Tally, random: &mut Random) {
-    let before = tally.compared;
     sweep::lines(tally, random);
     match lines::compare(random) {
         Ok(compared) => tally.compared += compared,
         Err(difference) => tally.differences.push(difference),
     }
-    println!("lines written: {} calls compared", tally.compared - before);
 }
 
 /// Where a list of calls makes the sides part, if it does.

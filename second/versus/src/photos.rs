@@ -3,7 +3,7 @@
 use crate::call::Call;
 use crate::files::photo::{self, file, PIXELS};
 use crate::random::Random;
-use crate::sides::{Beginning, Pair, Side};
+use crate::sides::Side;
 use crate::sweep::{lowest, Tally, FRAMES};
 
 /// The most bytes of a header.
@@ -79,12 +79,7 @@ struct Photos<'a> {
 /// Compares headers good and bad, changed, cut and random, and images and files of other lengths; how
 /// many files were read.
 pub fn compare(tally: &mut Tally, random: &mut Random) -> u64 {
-    let mut side = Pair::new(&Beginning {
-        rom_banks: 0,
-        ram_banks: 0,
-        seed: 6,
-    })
-    .archive;
+    let mut side = Side::of_noise(0, 0, 6);
     side.store.clear();
     let mut photos = Photos {
         tally,

@@ -42,12 +42,7 @@ struct Plates<'a> {
 /// Compares files good and bad, with captures held and not, and what is exported and placed again; how
 /// many files were placed.
 pub fn compare(tally: &mut Tally, random: &mut Random) -> u64 {
-    let mut side = Pair::new(&Beginning {
-        rom_banks: 0,
-        ram_banks: 1,
-        seed: 8,
-    })
-    .archive;
+    let mut side = Side::of_noise(0, 1, 8);
     (side.store, side.image) = (Vec::new(), Vec::new());
     let mut plates = Plates {
         tally,

@@ -2,7 +2,7 @@
 
 use crate::call::{hex, Call, Lent};
 use crate::random::Random;
-use crate::sides::{Beginning, Pair, Side};
+use crate::sides::Side;
 use crate::sweep::{begin, setting_of, Tally};
 use second::{State, Timing};
 
@@ -25,12 +25,7 @@ struct Made {
 /// in all rows outside 7 to 120, which must give the same, and of two with another row 7 and
 /// another row 120. Gives in how many settings either row changes the picture; there must be some.
 pub fn compare(tally: &mut Tally, random: &mut Random) -> [u64; 2] {
-    let mut side = Pair::new(&Beginning {
-        rom_banks: 0,
-        ram_banks: 1,
-        seed: 11,
-    })
-    .archive;
+    let mut side = Side::of_noise(0, 1, 11);
     let mut changed = [0; 2];
     for (mode, filter) in (0..16).flat_map(|mode| (0..4).map(move |filter| (mode, filter))) {
         let taken = setting_of(filter << 8 | random.below(16) << 4 | mode, random);

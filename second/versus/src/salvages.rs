@@ -3,7 +3,7 @@
 use crate::call::Call;
 use crate::files::script::{self, SHORT, SPOILED};
 use crate::random::Random;
-use crate::sides::{Beginning, Pair, Side};
+use crate::sides::Side;
 use crate::sweep::Tally;
 use second::{Salvaged, LONGEST_SCRIPT};
 
@@ -44,12 +44,7 @@ struct Salvages<'a> {
 /// Compares scripts doubled and more, cut, broken and of the most bytes, in rooms that suffice and that don't;
 /// how many were not refused, and how many of these had lines dropped as repeated.
 pub fn compare(tally: &mut Tally, random: &mut Random) -> [u64; 2] {
-    let mut side = Pair::new(&Beginning {
-        rom_banks: 0,
-        ram_banks: 0,
-        seed: 13,
-    })
-    .archive;
+    let mut side = Side::of_noise(0, 0, 13);
     (side.store, side.image) = (Vec::new(), Vec::new());
     let mut salvages = Salvages {
         tally,

@@ -3,7 +3,7 @@
 use crate::call::Call;
 use crate::files::save::{damage, seal};
 use crate::random::Random;
-use crate::sides::{Beginning, Pair, Side};
+use crate::sides::Side;
 use crate::sweep::{lowest, records, Tally, FRAMES, RAMS};
 use second::{State, RECORD_BYTES, SAVE_BYTES};
 
@@ -23,12 +23,7 @@ struct Saves<'a> {
 
 /// Compares saves written and read, good and bad; how many files were read.
 pub fn compare(tally: &mut Tally, random: &mut Random) -> u64 {
-    let mut side = Pair::new(&Beginning {
-        rom_banks: 0,
-        ram_banks: 1,
-        seed: 9,
-    })
-    .archive;
+    let mut side = Side::of_noise(0, 1, 9);
     side.image = Vec::new();
     let mut saves = Saves {
         tally,

@@ -4,7 +4,7 @@ use crate::call::{hex, Call, Lent};
 use crate::files::{photo, plate, save, script};
 use crate::random::Random;
 use gulxinett::bytes;
-use second::{Frame, Salvaged, State};
+use second::{Frame, Refusal, Salvaged, State};
 
 /// What the bytes of a picture, or of what else a call gives out, hold before.
 pub const UNDRAWN: u8 = 0xA5;
@@ -12,6 +12,11 @@ pub const UNDRAWN: u8 = 0xA5;
 /// A refusal as the interface answers it.
 pub fn refused(number: u64) -> u64 {
     number << 32
+}
+
+/// What the second program gave, as the interface answers it.
+fn answered<T>(given: Result<T, Refusal>, value: impl FnOnce(T) -> u64) -> u64 {
+    given.map_or_else(|refusal| refused(refusal.number().into()), value)
 }
 
 /// What one side is lent, and the record it handed back last.
@@ -44,14 +49,31 @@ pub fn record_archive(frame: &Frame<impl AsRef<[u8]>>, out: &mut [u8]) -> u64 {
 
 /// Writes a frame as a line through the second program, answering as the interface does.
 pub fn record_second(frame: &Frame<impl AsRef<[u8]>>, out: &mut [u8]) -> u64 {
-    let written = frame.write_line(out);
-    written.map_or_else(
-        |refusal| refused(refusal.number().into()),
-        |length| length as u64,
-    )
+    answered(frame.write_line(out), |length| length as u64)
 }
 
 impl Side {
+    /// A cartridge after reset, with so many banks of ROM and of RAM and all its memory full of noise.
+    pub fn of_noise(rom_banks: usize, ram_banks: usize, seed: u64) -> Self {
+        let mut random = Random::new(seed);
+        let mut noise = |length| {
+            let mut bytes = vec![0; length];
+            random.fill(&mut bytes);
+            bytes
+        };
+        Side {
+            state: State::RESET.to_bytes().to_vec(),
+            rom: noise(rom_banks * 16_384),
+            ram: noise(ram_banks * 8_192),
+            store: noise(16_384),
+            image: noise(16_384),
+            file: Vec::new(),
+            picture: [0; 3584],
+            out: Vec::new(),
+            report: Vec::new(),
+        }
+    }
+
     fn lent(&mut self, what: Lent) -> &mut Vec<u8> {
         match what {
             Lent::Rom => &mut self.rom,
@@ -244,7 +266,7 @@ impl Side {
             _ => Ok(0),
         };
         self.state.copy_from_slice(&state.to_bytes());
-        result.map_or_else(|refusal| refused(refusal.number().into()), u64::from)
+        answered(result, u64::from)
     }
 
     fn reset_second(&mut self) -> u64 {
@@ -257,18 +279,12 @@ impl Side {
 
     fn export_second(&mut self) -> u64 {
         let written = second::export(&self.ram, &mut self.out);
-        written.map_or_else(
-            |refusal| refused(refusal.number().into()),
-            |()| second::GREY_FILE_BYTES as u64,
-        )
+        answered(written, |()| second::GREY_FILE_BYTES as u64)
     }
 
     fn shades_second(&mut self) -> u64 {
         let read = second::shades(&self.ram, &mut self.out);
-        read.map_or_else(
-            |refusal| refused(refusal.number().into()),
-            |()| second::PIXELS as u64,
-        )
+        answered(read, |()| second::PIXELS as u64)
     }
 
     fn readings_second(&mut self) -> u64 {
@@ -276,31 +292,24 @@ impl Side {
             return refused(1);
         };
         let written = second::export_readings(&state, &self.store, &mut self.out);
-        written.map_or_else(
-            |refusal| refused(refusal.number().into()),
-            |()| second::GREY_FILE_BYTES as u64,
-        )
+        answered(written, |()| second::GREY_FILE_BYTES as u64)
     }
 
     fn import_second(&mut self) -> u64 {
         let read = second::import(&mut self.image, &self.file);
-        read.map_or_else(|refusal| refused(refusal.number().into()), |()| 0)
+        answered(read, |()| 0)
     }
 
     fn salvage_second(&mut self) -> u64 {
         let salvaged = second::salvage(&self.file, &mut self.out, &mut self.report);
-        salvaged.map_or_else(
-            |refusal| refused(refusal.number().into()),
-            |Salvaged { length, lines }| lines as u64 * 65_536 + length as u64,
-        )
+        answered(salvaged, |Salvaged { length, lines }| {
+            lines as u64 * 65_536 + length as u64
+        })
     }
 
     fn save_second(&mut self) -> u64 {
         let written = second::save(&self.state, &self.ram, &self.store, &mut self.out);
-        written.map_or_else(
-            |refusal| refused(refusal.number().into()),
-            |length| length as u64,
-        )
+        answered(written, |length| length as u64)
     }
 
     fn restore_second(&mut self) -> u64 {
@@ -312,18 +321,16 @@ impl Side {
             ..
         } = self;
         let read = second::restore(file, state, ram, store);
-        read.map_or_else(|refusal| refused(refusal.number().into()), |()| 0)
+        answered(read, |()| 0)
     }
 
     fn draw_second(&mut self, of: Lent, registers: &[u8; 54]) -> u64 {
         self.picture.fill(UNDRAWN);
-        match second::picture(self.lent(of), registers) {
-            Ok(plate) => {
-                self.picture = plate;
-                0
-            }
-            Err(refusal) => refused(refusal.number().into()),
-        }
+        let drawn = second::picture(self.lent(of), registers);
+        answered(drawn, |plate| {
+            self.picture = plate;
+            0
+        })
     }
 }
 
@@ -378,23 +385,12 @@ pub struct Beginning {
 
 impl Pair {
     pub fn new(beginning: &Beginning) -> Self {
-        let mut random = Random::new(beginning.seed);
-        let mut noise = |length| {
-            let mut bytes = vec![0; length];
-            random.fill(&mut bytes);
-            bytes
-        };
-        let side = Side {
-            state: State::RESET.to_bytes().to_vec(),
-            rom: noise(beginning.rom_banks * 16_384),
-            ram: noise(beginning.ram_banks * 8_192),
-            store: noise(16_384),
-            image: noise(16_384),
-            file: Vec::new(),
-            picture: [0; 3584],
-            out: Vec::new(),
-            report: Vec::new(),
-        };
+        let Beginning {
+            rom_banks,
+            ram_banks,
+            seed,
+        } = *beginning;
+        let side = Side::of_noise(rom_banks, ram_banks, seed);
         Pair {
             archive: side.clone(),
             second: side,

@@ -336,12 +336,7 @@ fn sweep_banks(tally: &mut Tally) {
 
 /// Frames of the wrong size leave the picture alone.
 fn sweep_frames(tally: &mut Tally) {
-    let mut side = Pair::new(&Beginning {
-        rom_banks: 1,
-        ram_banks: 1,
-        seed: 2,
-    })
-    .archive;
+    let mut side = Side::of_noise(1, 1, 2);
     for (length, no_frame) in FRAMES {
         side.image = lend(length);
         let registers = Box::new([0x35; 54]);
@@ -355,12 +350,7 @@ fn sweep_frames(tally: &mut Tally) {
 
 /// Frames of every kind as lines, in buffers long enough and too short, and rows that are none.
 pub fn lines(tally: &mut Tally, random: &mut Random) {
-    let side = Pair::new(&Beginning {
-        rom_banks: 1,
-        ram_banks: 1,
-        seed: 4,
-    })
-    .archive;
+    let side = Side::of_noise(1, 1, 4);
     let mut compare = |frame: Frame<Box<[u8]>>, room, wrong| {
         let length = lines::length(&frame);
         let due = lowest(&[(6, wrong), (7, room < length)]);
@@ -387,12 +377,7 @@ pub fn lines(tally: &mut Tally, random: &mut Random) {
 
 /// Every light set and level there is, and some that are none, on records that can exist and that can't.
 pub fn choices(tally: &mut Tally) {
-    let mut side = Pair::new(&Beginning {
-        rom_banks: 0,
-        ram_banks: 0,
-        seed: 7,
-    })
-    .archive;
+    let mut side = Side::of_noise(0, 0, 7);
     (side.store, side.image) = (Vec::new(), Vec::new());
     for (state, no_state) in records() {
         side.state = state;
@@ -422,12 +407,7 @@ fn every_level() -> impl Iterator<Item = (u8, u8)> {
 /// Random RAM of every count of banks, and of lengths that are none, as files and as shades in buffers
 /// long enough and too short.
 pub fn exports(tally: &mut Tally, random: &mut Random) {
-    let mut side = Pair::new(&Beginning {
-        rom_banks: 1,
-        ram_banks: 1,
-        seed: 5,
-    })
-    .archive;
+    let mut side = Side::of_noise(1, 1, 5);
     let mut lengths: Vec<usize> = (0..=34).map(|banks| banks * 8_192).collect();
     lengths.extend([1, 3_840, 4_096, 8_191, 8_193, 131_071, 131_073]);
     for length in lengths {
@@ -452,12 +432,7 @@ pub fn exports(tally: &mut Tally, random: &mut Random) {
 /// The readings of captures in every mode, ratio, inversion and 1-D filter, held anywhere over any lit
 /// values, running and not; and every combination of bad arguments.
 pub fn readings(tally: &mut Tally, random: &mut Random) {
-    let mut side = Pair::new(&Beginning {
-        rom_banks: 0,
-        ram_banks: 0,
-        seed: 9,
-    })
-    .archive;
+    let mut side = Side::of_noise(0, 0, 9);
     side.image = Vec::new();
     for setting in 0..1024 {
         paint(&mut side.store, (setting % 5) as u8, random.next());
@@ -496,12 +471,7 @@ pub fn readings(tally: &mut Tally, random: &mut Random) {
 /// under every mode, ratio, inversion and 1-D filter the readings and the picture, half and whole, which
 /// must be the picture afresh of the image.
 pub fn starts(tally: &mut Tally, random: &mut Random) {
-    let mut side = Pair::new(&Beginning {
-        rom_banks: 0,
-        ram_banks: 1,
-        seed: 13,
-    })
-    .archive;
+    let mut side = Side::of_noise(0, 1, 13);
     side.image = lend(16_384);
     let edges = [0, 1, 0x7F, 0xFF, 0x100, 0x101, 0x1FF, 0x555, 0x7FFF, 0x8000];
     let any = std::array::from_fn::<_, 120, _>(|_| random.next() as u16 >> random.below(12));
@@ -561,12 +531,7 @@ pub fn room_for(bytes: usize, random: &mut Random) -> usize {
 /// The picture afresh under every mode, ratio, inversion and 1-D filter, and every value of
 /// registers 0 to 5.
 pub fn pictures(tally: &mut Tally, random: &mut Random) {
-    let mut side = Pair::new(&Beginning {
-        rom_banks: 1,
-        ram_banks: 1,
-        seed: 3,
-    })
-    .archive;
+    let mut side = Side::of_noise(1, 1, 3);
     for setting in 0..1024 {
         paint(&mut side.image, (setting % 5) as u8, random.next());
         draw(tally, &side, setting_of(setting, random));
