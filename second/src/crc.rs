@@ -13,7 +13,7 @@ static TABLES: [[u32; 256]; STRIDE] = {
         let mut register = byte as u32;
         let mut bit = 0;
         while bit < 8 {
-            register = register >> 1 ^ (register & 1) * POLYNOMIAL;
+            register = (register >> 1) ^ ((register & 1) * POLYNOMIAL);
             bit += 1;
         }
         tables[0][byte] = register;

@@ -1,5 +1,8 @@
 //! The owner of a cartridge's memory: a save picked up by another, and what bad input gets.
 
+mod common;
+
+use common::{begin, frame, registers};
 use gulxinett::{
     bytes, layout_of, picture, Cartridge, Choice, Element, Parts, Refusal, FRAME_BYTES, LAYOUT,
     PICTURE_BYTES, PLATE_BYTES, RAM_BANK, REGISTERS, ROM_BANK, SHADES_BYTES, STATE_BYTES,
@@ -7,31 +10,10 @@ use gulxinett::{
 
 const TOTAL: u32 = 32_958 + 16 * 0x80;
 
-/// A picture of many shades under a rising matrix.
-fn frame() -> Vec<u8> {
-    (0..FRAME_BYTES).map(|i| (i * 7 + i / 128) as u8).collect()
-}
-
-fn registers() -> [u8; REGISTERS] {
-    let mut registers = [0; REGISTERS];
-    (registers[0], registers[3]) = (3, 0x80);
-    for (place, value) in registers.iter_mut().enumerate().skip(6) {
-        *value = (0x40 + 0x20 * (place % 3) + place) as u8;
-    }
-    registers
-}
-
 /// A cartridge with a capture half way.
 fn half_way() -> Cartridge {
     let mut cartridge = Cartridge::default();
-    cartridge.lend(&frame()).unwrap();
-    cartridge.write(0x4000, 0x10).unwrap();
-    // register 0 last: it starts the capture
-    for number in (0..REGISTERS).rev() {
-        let address = 0xA000 + number as u16;
-        cartridge.write(address, registers()[number]).unwrap();
-    }
-    assert_eq!(cartridge.tick(TOTAL / 2), Ok(TOTAL / 2));
+    begin(&mut cartridge, TOTAL / 2);
     cartridge
 }
 

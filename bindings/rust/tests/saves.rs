@@ -1,8 +1,11 @@
 //! The save file: every truncation and every changed bit is refused, and a file is there whole or not at all.
 
+mod common;
+
+use common::{begin, frame, registers};
 use gulxinett::{
     bytes, picture, write_whole, Cartridge, Refusal, FRAME_BYTES, LAYOUT, PICTURE_BYTES, RAM_BANK,
-    REGISTERS, ROM_BANK, SAVE_BYTES, STATE_BYTES,
+    ROM_BANK, SAVE_BYTES, STATE_BYTES,
 };
 use std::fs;
 use std::path::PathBuf;
@@ -37,30 +40,11 @@ impl Random {
     }
 }
 
-fn frame() -> Vec<u8> {
-    (0..FRAME_BYTES).map(|i| (i * 7 + i / 128) as u8).collect()
-}
-
-fn registers() -> [u8; REGISTERS] {
-    let mut registers = [0; REGISTERS];
-    (registers[0], registers[3]) = (3, 0x80);
-    for (place, value) in registers.iter_mut().enumerate().skip(6) {
-        *value = (0x40 + 0x20 * (place % 3) + place) as u8;
-    }
-    registers
-}
-
 /// A cartridge with a capture half way over a RAM full of anything.
 fn half_way(banks: usize) -> Cartridge {
     let ram = Random(29).bytes(banks * RAM_BANK);
     let mut cartridge = Cartridge::from_battery(ram).unwrap();
-    cartridge.lend(&frame()).unwrap();
-    cartridge.write(0x4000, 0x10).unwrap();
-    for number in (0..REGISTERS).rev() {
-        let address = 0xA000 + number as u16;
-        cartridge.write(address, registers()[number]).unwrap();
-    }
-    assert_eq!(cartridge.tick(20_000), Ok(20_000));
+    begin(&mut cartridge, 20_000);
     cartridge
 }
 
@@ -68,7 +52,7 @@ fn half_way(banks: usize) -> Cartridge {
 fn crc(bytes: &[u8]) -> u32 {
     !bytes.iter().fold(u32::MAX, |register, &byte| {
         (0..8).fold(register ^ u32::from(byte), |register, _| {
-            register >> 1 ^ (register & 1) * 0xEDB8_8320
+            (register >> 1) ^ ((register & 1) * 0xEDB8_8320)
         })
     })
 }
