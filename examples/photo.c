@@ -20,8 +20,10 @@ static void fail(const char *reason)
 
 int main(int count, char **words)
 {
-    if (count != 2)
-        fail("usage: photo FILE <PHOTOGRAPH");
+    if (count != 2) {
+        fputs("usage: photo FILE <PHOTOGRAPH\n", stderr);
+        return 2;
+    }
     size_t length = fread(photograph, 1, sizeof photograph, stdin);
     if (ferror(stdin))
         fail("the photograph can't be read");

@@ -21,8 +21,10 @@ static void fail(const char *reason)
 
 int main(int count, char **words)
 {
-    if (count != 2)
-        fail("usage: place RAM <PLATE");
+    if (count != 2) {
+        fputs("usage: place RAM <PLATE\n", stderr);
+        return 2;
+    }
     size_t length = fread(plate, 1, sizeof plate, stdin);
     if (ferror(stdin))
         fail("the plate can't be read");

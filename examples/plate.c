@@ -28,8 +28,10 @@ static uint8_t answered(void)
 
 int main(int count, char **words)
 {
-    if (count != 2)
-        fail("usage: plate FILE <ANSWERS");
+    if (count != 2) {
+        fputs("usage: plate FILE <ANSWERS\n", stderr);
+        return 2;
+    }
     for (int i = 0; i < GULXINETT_PICTURE_LEN; i++)
         ram[GULXINETT_PICTURE_OFFSET + i] = answered();
     if (getchar() != EOF)

@@ -152,11 +152,13 @@ static void finish(const char *path)
 
 int main(int argc, char **argv)
 {
-    if (argc == 3 && strcmp(argv[1], "begin") == 0)
+    if (argc == 3 && strcmp(argv[1], "begin") == 0) {
         begin(argv[2]);
-    else if (argc == 3 && strcmp(argv[1], "finish") == 0)
+    } else if (argc == 3 && strcmp(argv[1], "finish") == 0) {
         finish(argv[2]);
-    else
-        fail("usage: preempted begin FILE | preempted finish FILE");
+    } else {
+        fputs("usage: preempted begin FILE | preempted finish FILE\n", stderr);
+        return 2;
+    }
     return 0;
 }

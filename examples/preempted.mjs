@@ -71,8 +71,11 @@ function finish(path) {
 
 const [word, path, ...more] = process.argv.slice(2);
 const step = { begin, finish }[word];
+if (!step || !path || more.length > 0) {
+  console.error("usage: preempted.mjs begin FILE | preempted.mjs finish FILE");
+  process.exit(2);
+}
 try {
-  ensure(step && path && more.length === 0, "usage: preempted.mjs begin FILE | preempted.mjs finish FILE");
   await step(path);
 } catch (error) {
   console.error(`preempted.mjs: ${error.message}`);

@@ -74,8 +74,10 @@ def finish(path):
 
 def main(words):
     steps = {"begin": begin, "finish": finish}
+    if len(words) != 2 or words[0] not in steps:
+        print("usage: preempted.py begin FILE | preempted.py finish FILE", file=sys.stderr)
+        sys.exit(2)
     try:
-        ensure(len(words) == 2 and words[0] in steps, "usage: preempted.py begin FILE | preempted.py finish FILE")
         steps[words[0]](words[1])
     except (Failure, OSError, Refusal) as reason:
         sys.exit("preempted.py: %s" % reason)

@@ -109,6 +109,13 @@ def shades(area):
     return counts
 
 
-MATRICES = printed()
-every_choice(MATRICES)
-by_name(MATRICES, sys.argv[1])
+def main(words):
+    if len(words) != 1:
+        print("usage: python3 desk.py BUS", file=sys.stderr)
+        sys.exit(2)
+    matrices = printed()
+    every_choice(matrices)
+    by_name(matrices, words[0])
+
+
+main(sys.argv[1:])

@@ -21,8 +21,10 @@ int main(int count, char **words)
 {
     const size_t banks[2] = {1, 16};
     size_t lengths[2];
-    if (count != 4)
+    if (count != 4) {
+        fputs("usage: saves FILE ONE OTHER\n", stderr);
         return 2;
+    }
     gulxinett_reset(state, sizeof state);
     for (int which = 0; which < 2; which++) {
         memset(ram, 0x11 * (which + 1), sizeof ram);

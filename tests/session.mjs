@@ -155,7 +155,12 @@ class Session {
   }
 }
 
-const [save, out, seed, steps, plate] = process.argv.slice(2);
+const words = process.argv.slice(2);
+if (words.length < 4 || words.length > 5) {
+  console.error("usage: node session.mjs SAVE OUT SEED STEPS [plate]");
+  process.exit(2);
+}
+const [save, out, seed, steps, plate] = words;
 const session = new Session(existsSync(save) ? Cartridge.restore(readFileSync(save)) : new Cartridge(), randomBelow(Number(seed)));
 for (let step = 0; step < Number(steps); step++) session.step();
 if (plate) session.readOut();

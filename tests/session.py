@@ -172,4 +172,7 @@ def main(save, out, seed, steps, plate=None):
 
 
 if __name__ == "__main__":
+    if not 4 <= len(sys.argv[1:]) <= 5:
+        print("usage: python3 session.py SAVE OUT SEED STEPS [plate]", file=sys.stderr)
+        sys.exit(2)
     main(*sys.argv[1:])

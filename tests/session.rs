@@ -9,6 +9,7 @@ use gulxinett::{
 use std::error::Error;
 use std::fs;
 use std::path::Path;
+use std::process::ExitCode;
 
 const TRIGGER: u16 = 0xA000;
 const AREA: u16 = 0xA100;
@@ -219,11 +220,27 @@ impl Session {
     }
 }
 
-fn main() -> Result<(), Box<dyn Error>> {
+fn main() -> ExitCode {
     let words: Vec<String> = std::env::args().skip(1).collect();
-    let [save, out, seed, steps, plate @ ..] = &words[..] else {
-        return Err("usage: session SAVE OUT SEED STEPS [plate]".into());
+    let outcome = match &words[..] {
+        [save, out, seed, steps] => work(save, out, seed, steps, false),
+        [save, out, seed, steps, _] => work(save, out, seed, steps, true),
+        _ => {
+            eprintln!("usage: session SAVE OUT SEED STEPS [plate]");
+            return ExitCode::from(2);
+        }
     };
+    match outcome {
+        Ok(()) => ExitCode::SUCCESS,
+        Err(error) => {
+            eprintln!("session: {error}");
+            ExitCode::FAILURE
+        }
+    }
+}
+
+/// Does what the words ask for.
+fn work(save: &str, out: &str, seed: &str, steps: &str, plate: bool) -> Result<(), Box<dyn Error>> {
     let save = Path::new(save);
     let cartridge = if save.exists() {
         Cartridge::restore(&fs::read(save)?)?
@@ -234,7 +251,7 @@ fn main() -> Result<(), Box<dyn Error>> {
     for _ in 0..steps.parse::<u32>()? {
         session.step();
     }
-    if !plate.is_empty() {
+    if plate {
         session.read_out();
     }
     write_whole(save, &session.cartridge.save())?;

@@ -105,7 +105,11 @@ static size_t used_by(void (*run)(void))
 
 int main(int count, char **words)
 {
-    size_t allowed = count == 2 ? strtoul(words[1], NULL, 10) : 0;
+    if (count != 2) {
+        fputs("usage: stack BYTES\n", stderr);
+        return 2;
+    }
+    size_t allowed = strtoul(words[1], NULL, 10);
     size_t before = used_by(nothing), with = used_by(everything);
     /* what the callers above put there themselves */
     size_t own = 512;

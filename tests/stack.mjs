@@ -2,7 +2,12 @@
 // usage: node stack.mjs MODULE STACK BYTES: STACK bytes are the module's stack, of which calls may use BYTES
 import { lend } from "../tools/lent.mjs";
 
-const [path, stack, allowed] = [process.argv[2], Number(process.argv[3]), Number(process.argv[4])];
+const words = process.argv.slice(2);
+if (words.length !== 3) {
+  console.error("usage: node stack.mjs MODULE STACK BYTES");
+  process.exit(2);
+}
+const [path, stack, allowed] = [words[0], Number(words[1]), Number(words[2])];
 const cartridge = lend(path);
 if (cartridge.own < stack) throw new Error(`the module's own memory ends at ${cartridge.own}`);
 if (lowest() < stack) throw new Error("the stack's place holds something before the first call");

@@ -4,11 +4,15 @@
 //   image          and 16,384 bytes, the image from now on
 //   run COUNT      captures so many times, each with its start; answers the nanoseconds that took
 //
-// usage: node browser.mjs MODULE; with the word --sizes after it, prints how large module and memory are instead
+// usage: node browser.mjs MODULE [--sizes]; with --sizes it prints how large module and memory are instead
 import { readSync, writeSync } from "node:fs";
 import { lend } from "../../tools/lent.mjs";
 
-const [path, word] = process.argv.slice(2);
+const [path, word, ...more] = process.argv.slice(2);
+if (path === undefined || ![undefined, "--sizes"].includes(word) || more.length > 0) {
+  console.error("usage: node browser.mjs MODULE [--sizes]");
+  process.exit(2);
+}
 const cartridge = lend(path);
 
 function capture() {

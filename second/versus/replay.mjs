@@ -221,8 +221,13 @@ function replay(modulePath, answersPath) {
   }
 }
 
+const words = process.argv.slice(2);
+if (words.length !== 2) {
+  console.error("usage: node replay.mjs MODULE ANSWERS");
+  process.exit(2);
+}
 try {
-  replay(process.argv[2], process.argv[3]);
+  replay(...words);
 } catch (error) {
   console.error(`replay: ${error.message}`);
   process.exit(1);

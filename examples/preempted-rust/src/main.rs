@@ -130,7 +130,10 @@ fn main() -> ExitCode {
     let outcome = match words[..] {
         ["begin", path] => begin(path),
         ["finish", path] => finish(path),
-        _ => Err("usage: preempted-rust begin FILE | preempted-rust finish FILE".into()),
+        _ => {
+            eprintln!("usage: preempted-rust begin FILE | preempted-rust finish FILE");
+            return ExitCode::from(2);
+        }
     };
     match outcome {
         Ok(()) => ExitCode::SUCCESS,
