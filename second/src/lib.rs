@@ -1,4 +1,4 @@
-//! The Game Boy Camera cartridge controller (MAC-GBD), written a second time from document 01 alone.
+//! The Game Boy Camera cartridge controller (MAC-GBD), written a second time from the paper alone (docs/RULES.md has its rules).
 //!
 //! [`State`] is the record the controller keeps; ROM, RAM, image and frame store are lent as slices.
 //! [`read`], [`write`], [`tick`], [`inspect`] and [`picture`] are the calls, [`Session`] is the bus script,

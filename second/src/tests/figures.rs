@@ -1,4 +1,4 @@
-//! The checked figures of document 01, and its session.
+//! The checked figures of the paper, and its session.
 
 use super::slow::{put, shade, started, step_4, step_5};
 use crate::{picture, read, tick, Lines, Session, State, Timing};
