@@ -190,7 +190,7 @@ impl Answers {
             }
             Call::Restore => self.steps.push(19),
             Call::Image { .. }
-            | Call::File { .. }
+            | Call::Photo { .. }
             | Call::Plate { .. }
             | Call::Script { .. }
             | Call::Keep

@@ -77,7 +77,7 @@ pub enum Call {
         seed: u64,
     },
     /// Another file, which may be a photograph, is lent from here on.
-    File {
+    Photo {
         seed: u64,
     },
     /// Another file, which may be a plate, is lent from here on.
@@ -113,7 +113,7 @@ impl Call {
         !matches!(
             self,
             Call::Image { .. }
-                | Call::File { .. }
+                | Call::Photo { .. }
                 | Call::Plate { .. }
                 | Call::Script { .. }
                 | Call::Keep
@@ -162,7 +162,7 @@ impl fmt::Display for Call {
             Call::Save { room } => write!(f, "save in {room} bytes"),
             Call::Restore => write!(f, "restoring of the file lent"),
             Call::Image { kind, seed } => write!(f, "image of kind {kind}, seed {seed}"),
-            Call::File { seed } => write!(f, "file of seed {seed}"),
+            Call::Photo { seed } => write!(f, "photograph of seed {seed}"),
             Call::Plate { seed } => write!(f, "plate of seed {seed}"),
             Call::Script { seed } => write!(f, "script of seed {seed}"),
             Call::Keep => write!(f, "the picture area kept as the file lent"),

@@ -241,7 +241,7 @@ impl<'a> History<'a> {
     /// Lends a file, which may be none that can be read, and reads it into the image.
     fn plan_photo(&mut self) {
         let seed = self.random.next() >> 40;
-        self.planned.push_back(Call::File { seed });
+        self.planned.push_back(Call::Photo { seed });
         self.planned.push_back(Call::Import);
     }
 

@@ -87,7 +87,7 @@ impl Side {
     fn arrange(&mut self, call: &Call) {
         match call {
             Call::Image { kind, seed } => paint(&mut self.image, *kind, *seed),
-            Call::File { seed } => self.file = photo::random(&mut Random::new(*seed)),
+            Call::Photo { seed } => self.file = photo::random(&mut Random::new(*seed)),
             Call::Plate { seed } => self.file = plate::random(&mut Random::new(*seed)),
             Call::Script { seed } => self.file = script::random(&mut Random::new(*seed)),
             Call::Keep => self.keep(),
