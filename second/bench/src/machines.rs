@@ -4,6 +4,9 @@
 use gulxinett::bytes;
 use second::{State, FRAME_BYTES, RAM_BANK, RECORD_BYTES, ROM_BANK};
 
+/// Register 0, whose lowest bit starts a capture.
+pub const TRIGGER: u16 = 0xA000;
+
 /// A controller with its memory.
 pub trait Machine {
     fn read(&mut self, address: u16) -> u8;
@@ -87,7 +90,7 @@ impl Machine for Archive {
 
     fn start_again(&mut self) {
         let before = self.state;
-        self.write(super::TRIGGER, 3);
+        self.write(TRIGGER, 3);
         self.state = before;
     }
 }
@@ -132,7 +135,7 @@ impl Machine for Direct {
 
     fn start_again(&mut self) {
         let before = self.state;
-        self.write(super::TRIGGER, 3);
+        self.write(TRIGGER, 3);
         self.state = before;
     }
 }

@@ -4,6 +4,9 @@
 //! PROVED and SECOND are the two script programs, and every program is named with its arguments in one
 //! word of the shell. The proved controller is called by its C functions, which take the state as bytes;
 //! the second program's functions are called as they are.
+//!
+//! The modules from the bottom up, each of which uses only those named before it:
+//! machines, timing, outside, table, saves, script, written.
 
 #![forbid(unsafe_code)]
 
@@ -15,7 +18,7 @@ mod table;
 mod timing;
 mod written;
 
-use machines::{Archive, Direct, Machine};
+use machines::{Archive, Direct, Machine, TRIGGER};
 use outside::Outside;
 use std::hint::black_box;
 use std::io;
@@ -26,7 +29,6 @@ use timing::{here, race, Effort};
 /// What is done to a machine so many times.
 type Action = fn(&mut dyn Machine, u32);
 
-pub const TRIGGER: u16 = 0xA000;
 /// The modes with a filter of their own, and the plain one.
 const MODES: [u8; 7] = [0x0, 0x2, 0x3, 0xC, 0xD, 0xE, 0xF];
 

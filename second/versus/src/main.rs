@@ -5,6 +5,9 @@
 //! to two programs and compares what they print; each is named with its arguments in one word of
 //! the shell, apart by spaces. `versus answers FILE [CALLS [SEED]]` compares as the first does, and
 //! writes every call with the second program's answer to a file, for another caller to replay.
+//!
+//! The modules from the bottom up, each of which uses only those named before it:
+//! call, random, shrink, script, files, sides, answers, lines, sweep, photos, plates, rows, salvages, saves, history.
 
 #![forbid(unsafe_code)]
 
