@@ -29,9 +29,14 @@ FRAME = bytes((i * 7 + (i >> 7)) & 255 for i in range(FRAME_BYTES))
 TAKEN = bytes([3, 0, 0, 0x80, 0, 0]) + bytes(0x40 + 0x20 * (n % 3) + n for n in range(6, REGISTERS))
 
 
+def random_bytes(chance, count):
+    """So many bytes; `randbytes` does the same, but not before Python 3.9."""
+    return chance.getrandbits(8 * count).to_bytes(count, "little")
+
+
 def half_way(banks, seed=29):
     """A cartridge with a capture half way over a RAM full of anything."""
-    cartridge = Cartridge.from_battery(random.Random(seed).randbytes(banks * RAM_BANK))
+    cartridge = Cartridge.from_battery(random_bytes(random.Random(seed), banks * RAM_BANK))
     cartridge.lend(FRAME)
     cartridge.write(0x4000, 0x10)
     for n in reversed(range(REGISTERS)):
@@ -64,7 +69,7 @@ def damaged(file, chance):
     elif kind == 3:
         some += some[start:stop]
     elif kind == 4:
-        some[start:stop] = chance.randbytes(stop - start)
+        some[start:stop] = random_bytes(chance, stop - start)
     else:
         for _ in range(1 + chance.randrange(9)):
             some[chance.randrange(len(file))] ^= 1 << chance.randrange(8)
@@ -144,7 +149,7 @@ class Saves(unittest.TestCase):
             self.refused(8, none)
 
     def test_battery_saves_are_the_ram(self):
-        ram = random.Random(3).randbytes(131_072)
+        ram = random_bytes(random.Random(3), 131_072)
         cartridge = Cartridge.from_battery(ram)
         self.assertEqual(cartridge.battery(), ram)
         self.assertEqual(Cartridge(ram=ram).parts(), cartridge.parts())
