@@ -1,7 +1,7 @@
 //! The Game Boy Camera cartridge controller (MAC-GBD), written a second time from the paper alone (docs/RULES.md has its rules).
 //!
 //! [`State`] is the record the controller keeps; ROM, RAM, image and frame store are lent as slices.
-//! [`read`], [`write`], [`tick`], [`inspect`] and [`picture`] are the calls, [`Session`] is the bus script,
+//! [`read`], [`write()`], [`tick`], [`inspect`] and [`picture`] are the calls, [`Session`] is the bus script,
 //! [`Frame::write_line`] writes its lines and [`salvage()`] cleans it. [`export`] makes a grey image of
 //! the picture area, [`place`] puts one back and [`shades`] reads the area; [`export_readings`] makes a
 //! grey image of the values before the dots, and [`import`] an image of a colour photograph.

@@ -3,7 +3,9 @@
 //! Bytes of another length than 121, whose byte 0 is not the layout number 3, or whose byte 1 or 4 is
 //! above 1, are refused as [`Refusal::State`].
 
-use crate::{ffi, Refusal, PICTURE_BYTES, REGISTERS};
+use crate::ffi;
+use crate::refusal::Refusal;
+use crate::sizes::{PICTURE_BYTES, REGISTERS};
 
 /// What a C function answers: refusal number × 2^32 + value.
 #[derive(Clone, Copy, Debug, PartialEq, Eq)]

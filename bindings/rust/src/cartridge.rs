@@ -1,11 +1,14 @@
 //! A cartridge that owns its memory.
 
+use crate::bytes;
+use crate::calls::{choose, inspect, picture, read, reset, tick, write, Choice, Element};
 use crate::recorder::Recorder;
-use crate::{
-    bytes, choose, inspect, picture, read, reset, tick, write, Choice, Element, Refusal, State,
+use crate::refusal::Refusal;
+use crate::sizes::{
     FRAME_BYTES, PICTURE_BYTES, PICTURE_OFFSET, PLATE_BYTES, RAM_BANK, ROM_BANK, SAVE_BYTES,
     SHADES_BYTES, STATE_BYTES,
 };
+use crate::state::State;
 
 /// State, ROM, RAM, frame store and the image lent. Dropping it is closing it.
 #[derive(Clone, Debug, PartialEq, Eq)]

@@ -1,7 +1,8 @@
 //! What was done to a cartridge, as the lines of a bus script.
 
 use crate::bytes::{self, Answer};
-use crate::{State, LINE_BYTES, REGISTERS, ROW_BYTES};
+use crate::sizes::{LINE_BYTES, REGISTERS, ROW_BYTES};
+use crate::state::State;
 
 /// The lines so far, and what they tell of the image.
 #[derive(Clone, Debug, PartialEq, Eq)]

@@ -1,6 +1,6 @@
 //! The state record with its fields named.
 
-use crate::{LAYOUT, REGISTERS, STATE_BYTES};
+use crate::sizes::{LAYOUT, REGISTERS, STATE_BYTES};
 
 /// Everything the controller keeps between calls.
 #[derive(Clone, Copy, Debug, PartialEq, Eq)]
