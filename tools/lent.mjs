@@ -8,6 +8,8 @@ const SIZES = {
 const SCRIPT_SIZES = { script: 32768, text: 32769, report: 32768, save: 16516 + 8192 };
 const PAGE = 65536;
 const TRIGGER = 0xa000;
+/** Where the registers stand in the state record. */
+const REGISTERS_OFFSET = 13;
 
 /** The value of an answer; nothing here is to be refused. */
 function value(answer) {
@@ -52,7 +54,11 @@ export function lend(path) {
     tick: (cycles) => value(call.gulxinett_tick(...lent("state", "ram", "store"), cycles)),
     choose: (level) => value(call.gulxinett_choose(...lent("state"), 1, level, 0, 0x10000)),
     inspect: () => value(call.gulxinett_inspect(...lent("state"))),
-    picture: () => value(call.gulxinett_picture(...lent("image"), at.registers, at.picture)),
+    /** The picture afresh of the image, under the registers as last written. */
+    picture() {
+      view("registers").set(view("state").subarray(REGISTERS_OFFSET, REGISTERS_OFFSET + SIZES.registers));
+      return value(call.gulxinett_picture(...lent("image"), at.registers, at.picture));
+    },
     export: () => value(call.gulxinett_export(...lent("ram", "plate"))),
     place: () => value(call.gulxinett_place(...lent("state", "ram", "plate"))),
     /** Takes the plate's room. */
