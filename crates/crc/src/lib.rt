@@ -1,7 +1,7 @@
 // CRC-32, as zlib, PNG and gzip have it: a byte at a time, by a table.
 ghost use mathlib.Core.Path.{_≡_};
 ghost use Rattle.crc.specs.Crc.{byteStep, over, updated, crcOf};
-ghost use Rattle.crc.specs.Table.{byteTable};
+ghost use Rattle.crc.specs.Aside.{byteTable};
 
 // What eight bits make of each byte.
 const TABLE: [u32; 256] = [

@@ -196,7 +196,7 @@ fn mode(first: &[u8; 6], image: &[u8; 16384]) {
 }
 
 // Between them: -P, P and P - s in step 5, inversion, five ratios, and gain, Vref and A005 bits that count for nothing.
-pub fn modes() {
+pub(crate) fn modes() {
     let image = image();
     mode(&[0x01, 0x00, 0x01, 0x40, 0x08, 0x00], &image);
     mode(&[0x03, 0x20, 0x01, 0x40, 0x10, 0x00], &image);

@@ -2,17 +2,17 @@
 use libc::STDOUT_FILENO;
 
 // Words.
-pub fn text(s: &[u8]) {
+pub(crate) fn text(s: &[u8]) {
     io::write_all(STDOUT_FILENO, s);
 }
 
 // A number, in decimal.
-pub fn number(n: u64) {
+pub(crate) fn number(n: u64) {
     io::print_decimal(STDOUT_FILENO, n);
 }
 
 // The low hexadecimal digit of a byte.
-pub fn digit(n: u8) -> u8 {
+pub(crate) fn digit(n: u8) -> u8 {
     let d = n % 16;
     if d < 10 {
         return b'0' + d;
@@ -21,24 +21,24 @@ pub fn digit(n: u8) -> u8 {
 }
 
 // A byte, in two digits.
-pub fn byte(b: u8) {
+pub(crate) fn byte(b: u8) {
     text(&[digit(b / 16), digit(b)]);
 }
 
 // A number below 2^16, in four digits.
-pub fn word(w: u16) {
+pub(crate) fn word(w: u16) {
     byte((w / 256) as u8);
     byte((w % 256) as u8);
 }
 
 // A number below 2^32, in eight digits.
-pub fn long(n: u64) {
+pub(crate) fn long(n: u64) {
     word((n / 65536 % 65536) as u16);
     word((n % 65536) as u16);
 }
 
 // Bytes, each after a space.
-pub fn bytes(s: &[u8]) {
+pub(crate) fn bytes(s: &[u8]) {
     let mut i = 0;
     while i < s.len() {
         text(b" ");

@@ -75,7 +75,7 @@ fn example(name: &[u8], regs: &[u8; 54], printed: &[u8]) {
 }
 
 // The three example lines, letter for letter as document 001 prints them.
-pub fn examples() {
+pub(crate) fn examples() {
     text(b"In (00h-FFh) 0000111122223333444455556666777788889999AAAABBBBCCCCDDDDEEEEFFFF\n");
     example(
         b"Min: 80 8F D0",

@@ -12,7 +12,7 @@ use borrow.Author.Tests.{leb-true, le-leb}
 use Rattle.laws.specs.Lists.{listed}
 use Rattle.laws.proofs.Bools.{both-left, both-right}
 use Rattle.photos.specs.Header.{Header, Photo}
-use Rattle.photos.specs.Reading.{isHeader}
+use Rattle.photos.specs.Aside.{isHeader}
 use Rattle.photos.specs.Photo.{headerLength, isPhoto, valueOf, imageOf}
 use Rattle.photos.proofs.Grammar.{reads-header}
 

@@ -11,7 +11,7 @@ use lib.Dec.{eqb}
 use borrow.Author.Tests.{eq-eqb, ne-eqb}
 use Rattle.laws.proofs.Order.{split}
 use Rattle.photos.specs.Header.{isWhite, isEnd, parts}
-use Rattle.photos.specs.Reading.{Left, atPart, inGap, inComment, moved, finished, reads, from}
+use Rattle.photos.specs.Aside.{Left, atPart, inGap, inComment, moved, finished, reads, from}
 
 -- the parts from number n on: that one, and those after it
 pub part-at : (n : ℕ) → n < 15 → drop n parts ≡ getD parts n 0 ∷ drop (n + 1) parts

@@ -11,7 +11,7 @@ use Rattle.laws.specs.Pick.{pick}
 use Rattle.laws.proofs.Pick.{never}
 use Rattle.laws.proofs.Bools.{either, both-left, both-right}
 use Rattle.photos.specs.Header.{isWhite, isEnd, Comment, last, more, Among, nothing, space, comment, Gap, white, Text, end, byte, gap, one, parts, Header}
-use Rattle.photos.specs.Reading.{Left, left, moved, finished, reads, isHeader}
+use Rattle.photos.specs.Aside.{Left, left, moved, finished, reads, isHeader}
 
 -- a part that can follow a gap: a byte that is neither white space nor #
 unfoldable opens : List ℕ → Bool

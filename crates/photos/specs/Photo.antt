@@ -7,7 +7,7 @@ use lib.ListN.{length, getD, take, drop}
 use Rattle.laws.specs.Lists.{listed}
 use Rattle.controller.specs.declared.Refusal.the-variants.{File}
 use Rattle.controller.specs.Table.{Row, row, noFrame, lowest, judged}
-use Rattle.photos.specs.Reading.{isHeader}
+use Rattle.photos.specs.Aside.{isHeader}
 
 -- exactly 49,152 bytes come after the header
 abbrev pub headerLength : List ℕ → ℕ

@@ -3,7 +3,7 @@ ghost use mathlib.Core.Path.{_≡_};
 ghost use Prim.Native.Nat.{ℕ, _≤_, _<_};
 ghost use lib.ListN.{drop};
 ghost use Rattle.photos.specs.Header.{isWhite, isEnd, parts};
-ghost use Rattle.photos.specs.Reading.{moved, from, isHeader};
+ghost use Rattle.photos.specs.Aside.{moved, from, isHeader};
 
 // A header's parts: a byte that is given, a gap of white space and comments (0), one white space byte (1).
 const PARTS: [u8; 15] = [

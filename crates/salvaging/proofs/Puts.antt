@@ -11,7 +11,7 @@ use Rattle.lines.specs.Hex.{placed}
 use Rattle.lines.specs.Record.{ended}
 use Rattle.lines.proofs.Placed.{placed-one, placed-next, length-placed}
 use Rattle.salvaging.specs.Kept.{accepted, textOf, keptOr, markOf, leftAfter, marks}
-use Rattle.salvaging.specs.Places.{between}
+use Rattle.salvaging.specs.Aside.{between}
 
 -- ---- a byte after a text that was put
 

@@ -13,7 +13,7 @@ use Rattle.laws.proofs.Order.{split}
 use Rattle.laws.proofs.Bools.{either}
 use Rattle.script.specs.Text.{begins, linesOf}
 use Rattle.salvaging.specs.Kept.{accepted, acceptedOf}
-use Rattle.salvaging.specs.Places.{lineLength, linesAt, acceptedAt, between}
+use Rattle.salvaging.specs.Aside.{lineLength, linesAt, acceptedAt, between}
 
 -- ---- where a line ends
 

@@ -1,4 +1,4 @@
 -- The meaning of a salvaged script.
 pub mod Kept
 pub mod Salvage
-pub mod Places
+pub mod Aside

@@ -6,7 +6,7 @@ ghost use Prim.Native.Nat.{_+_, _≤_, _<_};
 ghost use lib.ListN.{length, drop};
 ghost use Rattle.script.specs.Text.{linesOf};
 ghost use Rattle.salvaging.specs.Kept.{accepted, acceptedOf};
-ghost use Rattle.salvaging.specs.Places.{lineLength, linesAt, acceptedAt, Next};
+ghost use Rattle.salvaging.specs.Aside.{lineLength, linesAt, acceptedAt, Next};
 
 // Where a line begins, and where it ends: its LF not counted.
 pub struct Place {

@@ -10,7 +10,7 @@ ghost use Rattle.lines.specs.Hex.{placed};
 ghost use Rattle.lines.specs.Record.{ended};
 ghost use Rattle.script.specs.Text.{linesOf};
 ghost use Rattle.salvaging.specs.Kept.{textOf, markOf, leftAfter, marks};
-ghost use Rattle.salvaging.specs.Places.{acceptedAt};
+ghost use Rattle.salvaging.specs.Aside.{acceptedAt};
 
 // The report's bytes.
 pub const KEPT: u8 = 0;

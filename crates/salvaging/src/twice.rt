@@ -10,7 +10,7 @@ ghost use lib.ListN.{length, take};
 ghost use Rattle.lines.specs.Line.{frameOf};
 ghost use Rattle.script.specs.Text.{linesOf};
 ghost use Rattle.salvaging.specs.Kept.{isReset, startsReset, sameLine, sameLines, doubled, salvaged};
-ghost use Rattle.salvaging.specs.Places.{acceptedAt};
+ghost use Rattle.salvaging.specs.Aside.{acceptedAt};
 
 // Whether a line is reset.
 fn is_reset(line: &[u8]) -> bool

@@ -9,7 +9,7 @@ use borrow.Author.Needs.{needs}
 use Rattle.laws.specs.Iter.{iter}
 use Rattle.laws.proofs.Packed.{listed-at}
 use Rattle.crc.specs.Crc.{bitStep}
-use Rattle.crc.specs.Table.{byteTable}
+use Rattle.crc.specs.Aside.{byteTable}
 use Rattle.crc.proofs.Steps.{by-table}
 use Rattle.crc.proofs.byte_step.Statement.{statement}
 use Rattle.crc.proofs.byte_step.Tie as tie

@@ -6,7 +6,7 @@ use borrow.Author.Needs.{needs}
 use Rattle.laws.specs.Iter.{iter}
 use Rattle.laws.specs.Lists.{listed}
 use Rattle.crc.specs.Crc.{ones, bitStep, updated}
-use Rattle.crc.specs.Table.{byteTable}
+use Rattle.crc.specs.Aside.{byteTable}
 use Rattle.crc.proofs.update.Statement.{statement}
 use Rattle.crc.proofs.update.Tie as tie
 

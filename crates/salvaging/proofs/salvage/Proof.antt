@@ -14,7 +14,7 @@ use Rattle.lines.specs.Hex.{placed}
 use Rattle.script.specs.Text.{linesOf}
 use Rattle.salvaging.specs.Kept.{textOf, marks, reportOf}
 use Rattle.salvaging.specs.Salvage.{cleaned, salvaging, unsalvaged, salvageDone, salvageMeans}
-use Rattle.salvaging.specs.Places.{acceptedAt}
+use Rattle.salvaging.specs.Aside.{acceptedAt}
 use Rattle.salvaging.proofs.Outcomes.{roomRows, inSalvaging, room-judged, salvage-long, salvage-short, salvage-fits}
 use Rattle.salvaging.proofs.salvage.Statement.{statement}
 use Rattle.salvaging.proofs.salvage.Tie as tie

@@ -7,7 +7,7 @@ use native.Mathlib.Omega.{arith}
 use lib.ListN.{length, getD, drop}
 use lib.Seq.{drop-cons, drop-length}
 use Rattle.photos.specs.Header.{parts}
-use Rattle.photos.specs.Reading.{reads, from, isHeader}
+use Rattle.photos.specs.Aside.{reads, from, isHeader}
 use Rattle.photos.proofs.Bytewise.{reads-more, reads-end, finished-no, finished-part}
 use borrow.Author.Needs.{needs}
 use Rattle.photos.proofs.header.is_header.Statement.{statement}

@@ -3,7 +3,7 @@ use mathlib.Core.Path.{_≡_, sym, ap, _∙_}
 use native.Mathlib.Omega.{arith}
 use lib.ListN.{drop}
 use Rattle.photos.specs.Header.{parts}
-use Rattle.photos.specs.Reading.{moved, from}
+use Rattle.photos.specs.Aside.{moved, from}
 use Rattle.photos.proofs.Bytewise.{moved-past, moved-wrong}
 use borrow.Author.Needs.{needs}
 use Rattle.photos.proofs.header.step.Statement.{statement}

@@ -7,7 +7,7 @@ use lib.ListN.{length}
 use borrow.Author.Needs.{needs}
 use Rattle.script.specs.Text.{linesOf}
 use Rattle.salvaging.specs.Kept.{acceptedOf}
-use Rattle.salvaging.specs.Places.{acceptedAt}
+use Rattle.salvaging.specs.Aside.{acceptedAt}
 use Rattle.salvaging.proofs.Walks.{accepted-next, malformed-next, none-accepted}
 use Rattle.salvaging.proofs.place.count_accepted.Statement.{statement}
 use Rattle.salvaging.proofs.place.count_accepted.Tie as tie

@@ -4,7 +4,7 @@ use Prim.Native.Nat.{_≤_, _+_, _-_}
 use native.Mathlib.Omega.{arith}
 use lib.ListN.{length}
 use Rattle.script.specs.Text.{linesOf}
-use Rattle.salvaging.specs.Places.{linesAt}
+use Rattle.salvaging.specs.Aside.{linesAt}
 use Rattle.salvaging.proofs.Walks.{line-next, none-left}
 use Rattle.salvaging.proofs.place.count_lines.Statement.{statement}
 use Rattle.salvaging.proofs.place.count_lines.Tie as tie

@@ -3,7 +3,7 @@ use mathlib.Core.Path.{_≡_, refl}
 use Prim.Native.Nat.{_≤_, _+_, _-_}
 use native.Mathlib.Omega.{arith}
 use lib.ListN.{length, drop}
-use Rattle.salvaging.specs.Places.{lineLength}
+use Rattle.salvaging.specs.Aside.{lineLength}
 use Rattle.salvaging.proofs.Walks.{ends-here, ends-later, ends-there}
 use Rattle.salvaging.proofs.place.line_end.Statement.{statement}
 use Rattle.salvaging.proofs.place.line_end.Tie as tie

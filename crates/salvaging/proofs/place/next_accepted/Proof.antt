@@ -5,7 +5,7 @@ use native.Mathlib.Omega.{arith}
 use lib.ListN.{length, drop}
 use borrow.Author.Needs.{needs}
 use Rattle.laws.proofs.Bools.{left-out, let-in}
-use Rattle.salvaging.specs.Places.{lineLength, acceptedAt}
+use Rattle.salvaging.specs.Aside.{lineLength, acceptedAt}
 use Rattle.salvaging.proofs.Walks.{accepted-next, malformed-next, some-left}
 use Rattle.salvaging.proofs.place.next_accepted.Statement.{statement}
 use Rattle.salvaging.proofs.place.next_accepted.Tie as tie

@@ -3,7 +3,7 @@ use mathlib.Core.Path.{_≡_, refl, sym, ap, _∙_}
 use Prim.Native.Nat.{_≤_}
 use native.Mathlib.Omega.{arith}
 use lib.ListN.{length, drop}
-use Rattle.salvaging.specs.Places.{acceptedAt}
+use Rattle.salvaging.specs.Aside.{acceptedAt}
 use Rattle.salvaging.proofs.Walks.{drop-next}
 use Rattle.salvaging.proofs.place.place_after.Statement.{statement}
 use Rattle.salvaging.proofs.place.place_after.Tie as tie

@@ -9,7 +9,7 @@ use Rattle.lines.specs.Hex.{placed}
 use Rattle.lines.proofs.Placed.{placed-none}
 use Rattle.script.specs.Text.{linesOf}
 use Rattle.salvaging.specs.Kept.{marks}
-use Rattle.salvaging.specs.Places.{linesAt}
+use Rattle.salvaging.specs.Aside.{linesAt}
 use Rattle.salvaging.proofs.Walks.{line-next, none-left}
 use Rattle.salvaging.proofs.Puts.{marks-next, marks-none, mark-next}
 use Rattle.salvaging.proofs.put.put_report.Statement.{statement}

@@ -7,7 +7,7 @@ use lib.ListN.{length, take}
 use Rattle.lines.specs.Hex.{placed}
 use Rattle.lines.proofs.Placed.{placed-none}
 use Rattle.salvaging.specs.Kept.{textOf}
-use Rattle.salvaging.specs.Places.{acceptedAt, between}
+use Rattle.salvaging.specs.Aside.{acceptedAt, between}
 use Rattle.salvaging.proofs.Puts.{text-next, text-longer, text-none, ended-long, between-long, put-next}
 use Rattle.salvaging.proofs.put.put_text.Statement.{statement}
 use Rattle.salvaging.proofs.put.put_text.Tie as tie

@@ -4,7 +4,7 @@ use Prim.Native.Nat.{_≤_, _+_, _-_}
 use native.Mathlib.Omega.{arith}
 use lib.ListN.{length, take}
 use Rattle.salvaging.specs.Kept.{textOf}
-use Rattle.salvaging.specs.Places.{acceptedAt}
+use Rattle.salvaging.specs.Aside.{acceptedAt}
 use Rattle.salvaging.proofs.Puts.{text-longer, text-none, between-long}
 use Rattle.salvaging.proofs.put.text_length.Statement.{statement}
 use Rattle.salvaging.proofs.put.text_length.Tie as tie

@@ -6,7 +6,7 @@ use lib.ListN.{length, length-drop}
 use lib.Seq.{length-take-le}
 use borrow.Author.Needs.{needs}
 use Rattle.laws.proofs.Bools.{left-out, let-in}
-use Rattle.salvaging.specs.Places.{acceptedAt}
+use Rattle.salvaging.specs.Aside.{acceptedAt}
 use Rattle.salvaging.proofs.Turns.{few, odd, first-not, second-not, both-start}
 use Rattle.salvaging.proofs.twice.is_doubled.Statement.{statement}
 use Rattle.salvaging.proofs.twice.is_doubled.Tie as tie

@@ -6,7 +6,7 @@ use lib.ListN.{length, take}
 use borrow.Author.Needs.{needs}
 use Rattle.script.specs.Text.{linesOf}
 use Rattle.salvaging.specs.Kept.{unrepeated, salvaged}
-use Rattle.salvaging.specs.Places.{acceptedAt}
+use Rattle.salvaging.specs.Aside.{acceptedAt}
 use Rattle.salvaging.proofs.Turns.{all-counted, some-doubled, first-half, again, stays}
 use Rattle.salvaging.proofs.twice.kept.Statement.{statement}
 use Rattle.salvaging.proofs.twice.kept.Tie as tie

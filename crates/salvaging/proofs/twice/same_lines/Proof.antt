@@ -6,7 +6,7 @@ use lib.ListN.{length, take}
 use borrow.Author.Needs.{needs}
 use Rattle.laws.proofs.Bools.{left-out, let-in}
 use Rattle.salvaging.specs.Kept.{sameLines}
-use Rattle.salvaging.specs.Places.{acceptedAt}
+use Rattle.salvaging.specs.Aside.{acceptedAt}
 use Rattle.salvaging.proofs.Turns.{same-breaks, same-goes, same-done}
 use Rattle.salvaging.proofs.twice.same_lines.Statement.{statement}
 use Rattle.salvaging.proofs.twice.same_lines.Tie as tie

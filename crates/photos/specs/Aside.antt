@@ -1,5 +1,5 @@
--- Reading a header byte by byte: a device of the code's contracts. It need not be believed: `Grammar.reads-header` ties it to Header.
--- Assumes nothing.
+-- Aside: devices of contracts between functions. Nothing here need be believed: every use of it is tied by a proof to the definitions beside it.
+-- Reading a header byte by byte: `Grammar.reads-header` ties it to Header. Assumes nothing.
 use mathlib.Core.Bool.{Bool, true, false}
 use mathlib.Core.List.{List, [], _∷_}
 use Prim.Native.Nat.{ℕ, zero, suc}

@@ -1,4 +1,5 @@
--- The table that a byte is looked up in: a device of private functions. Assumes nothing.
+-- Aside: devices of contracts between functions. Nothing here need be believed: every use of it is tied by a proof to the definitions beside it.
+-- The table that a byte is looked up in. Assumes nothing.
 use mathlib.Core.List.{List}
 use Prim.Native.Nat.{ℕ}
 use Rattle.laws.specs.Iter.{iter}
