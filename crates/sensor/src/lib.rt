@@ -81,7 +81,7 @@ pub fn step_4(store: &[u8], set: Setting, x: usize, row: usize) -> i32
 }
 
 // Modes 0, 2 and 3 pass the 1-D filter.
-fn passing(mode: u8) -> bool
+pub fn passing(mode: u8) -> bool
     ensures { λ r. ⌜ r ≡ passes mode ⌝ }
 {
     if mode == 0 {

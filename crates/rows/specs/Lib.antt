@@ -1,0 +1,2 @@
+-- Rows of values: devices of contracts between crates.
+pub mod Rows
