@@ -1,3 +1,4 @@
 -- Laws of the readings.
+pub mod Parts
 pub mod Values
 pub mod Light

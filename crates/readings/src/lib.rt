@@ -8,28 +8,34 @@ use controller::judge::refused_if;
 use lighting::Setting;
 use plates::grey::FILE;
 use plates::grey::put_header;
+use rows::first_row;
+use rows::next_row;
 use shades::Output;
 ghost use mathlib.Core.Path.{_≡_};
 ghost use mathlib.Core.List.{_++_};
-ghost use Prim.Native.Nat.{ℕ, _≤_};
+ghost use Prim.Native.Nat.{ℕ, _+_, _/_, _%_, _≤_};
 ghost use lib.ListN.{length, drop};
 ghost use Rattle.laws.specs.Lists.{listed};
-ghost use Rattle.lighting.specs.Taken.{Asked};
+ghost use Rattle.lighting.specs.Taken.{Sane};
 ghost use Rattle.lighting.specs.Light.{byteAt};
+ghost use Rattle.sensor.specs.Shade.{valueAt};
 ghost use Rattle.controller.specs.Outcome.{verdictNumber};
 ghost use Rattle.controller.specs.Table.{lowest};
 ghost use Rattle.shades.specs.Shades.{outputNumber, outputValue, exported};
-ghost use Rattle.readings.specs.Readings.{reading, readingsOf, readingRows, readingsMean};
+ghost use Rattle.readings.specs.Readings.{readingsOf, readingRows, readingsMean};
 
-// All values, row by row: picture row y is sensor row y + 8.
-fn put_values(store: &[u8], set: Setting, regs: &[u8; 54], values: &mut [u8])
+// All values, row by row: picture row y is sensor row y + 8. What a row needs of the next one is carried on.
+fn put_values(store: &[u8], set: Setting, values: &mut [u8])
     requires { ⌜ (length (now store) ≡ 16384) × (length (now values) ≡ 14336) ⌝ }
-    requires { ⌜ Asked set (now regs) ⌝ }
-    ensures { λ _. ⌜ now (values .exit) ≡ listed (reading (byteAt (now (store .entry))) (now (regs .entry))) 14336 ⌝ }
+    requires { ⌜ Sane set ⌝ }
+    ensures { λ _. ⌜ now (values .exit) ≡ listed (λ k. valueAt (byteAt (now (store .entry))) set (k % 128) (k / 128 + 8)) 14336 ⌝ }
 {
-    for k in 0..tiles::PIXELS {
-        let pixel = sensor::pixel_at(store, set, regs, k % 128, k / 128 + 8);
-        values[k] = pixel.value;
+    let mut carried = [0u8; 128];
+    first_row(store, set, 8, &mut carried);
+    for y in 0..112 {
+        let start = 128 * y;
+        let end = start + 128;
+        next_row(store, set, y + 8, &mut carried, &mut values[start..end]);
     }
 }
 
@@ -39,7 +45,7 @@ fn put_readings(store: &[u8], regs: &[u8; 54], out: &mut [u8])
     ensures { λ _. ⌜ now (out .exit) ≡ readingsOf (byteAt (now (store .entry))) (now (regs .entry)) ++ drop 14351 (now (out .entry)) ⌝ }
 {
     put_header(&mut out[0..15]);
-    put_values(store, Setting::of(regs), regs, &mut out[15..14351]);
+    put_values(store, Setting::of(regs), &mut out[15..14351]);
 }
 
 // What readings are asked of, judged: 1, 4, 7, then 11.
