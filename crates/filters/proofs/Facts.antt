@@ -7,7 +7,7 @@ use native.Mathlib.Omega.{arith}
 use borrow.Author.Tests.{ltb-false, ne-eqb}
 use lib.IntN.{ℤ, pos, negsuc}
 use lib.Signed.{mag, ltZ}
-use mir.Syntax.{w32}
+use mir.Syntax.{Width}
 use mir.Val.{SFits, toZ, ofZ}
 use mir.Facts.{toZ-ofZ}
 use lib.Dec.{eqb, ltb, lit<}
@@ -18,14 +18,14 @@ use Rattle.filters.specs.Edge.{between, held, nine, Small, mode2, mode3,
 -- ---- what is held
 
 -- low, high and v itself are held to low..high by the tests of the number read back from v's bits
-module _ (low high : ℤ) {v : ℤ} (f : SFits w32 v) where
-  pub held-below : ltZ (toZ w32 (ofZ w32 v)) low ≡ true → low ≡ between low high v
+module _ (w : Width) (low high : ℤ) {v : ℤ} (f : SFits w v) where
+  pub held-below : ltZ (toZ w (ofZ w v)) low ≡ true → low ≡ between low high v
   held-below t = simp (rw (toZ-ofZ f) at t)
 
-  pub held-above : ltZ (toZ w32 (ofZ w32 v)) low ≡ false → ltZ high (toZ w32 (ofZ w32 v)) ≡ true → high ≡ between low high v
+  pub held-above : ltZ (toZ w (ofZ w v)) low ≡ false → ltZ high (toZ w (ofZ w v)) ≡ true → high ≡ between low high v
   held-above t u = simp (rw (toZ-ofZ f) at t, rw (toZ-ofZ f) at u)
 
-  pub held-kept : ltZ (toZ w32 (ofZ w32 v)) low ≡ false → ltZ high (toZ w32 (ofZ w32 v)) ≡ false → toZ w32 (ofZ w32 v) ≡ between low high v
+  pub held-kept : ltZ (toZ w (ofZ w v)) low ≡ false → ltZ high (toZ w (ofZ w v)) ≡ false → toZ w (ofZ w v) ≡ between low high v
   held-kept t u = simp (toZ-ofZ f, rw (toZ-ofZ f) at t, rw (toZ-ofZ f) at u)
 
 pub held-small : (v : ℤ) → mag (held v) < 128

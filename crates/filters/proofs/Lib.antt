@@ -1,3 +1,3 @@
 -- The modules of `proofs/` that belong to no one function.
-pub mod Sums
 pub mod Facts
+pub mod Sums

@@ -3,6 +3,7 @@ ghost use mathlib.Core.Path.{_≡_};
 ghost use Prim.Native.Nat.{_+_, _-_, _/_, _<_, _≤_};
 ghost use lib.IntN.{natAbs};
 ghost use Rattle.filters.specs.Edge.{held, Small, acrossOf, uprightOf, aroundOf, enhanced, extracted, mode2, mode3, modeC, modeD, modeE, modeF, edgeOf, isPlain};
+ghost use Rattle.filters.specs.Nine.{SmallRow, threeIn, nineIn};
 
 // Held to -128..127.
 pub fn hold(v: i32) -> i32
@@ -17,8 +18,36 @@ pub fn hold(v: i32) -> i32
     v
 }
 
+// The same in 16 bits, which hold every number that a filter meets: a loop over pixels then has eight of them in a vector.
+fn hold_16(v: i16) -> i16
+    ensures { λ r. ⌜ r ≡ held v ⌝ }
+{
+    if v < -128 {
+        return -128;
+    }
+    if 127 < v {
+        return 127;
+    }
+    v
+}
+
+// Three values, and the nine, in 16 bits.
+fn narrow_row(n: [i32; 3]) -> [i16; 3]
+    requires { ⌜ SmallRow n ⌝ }
+    ensures { λ r. ⌜ r ≡ threeIn n ⌝ }
+{
+    [n[0] as i16, n[1] as i16, n[2] as i16]
+}
+
+fn narrow(n: [[i32; 3]; 3]) -> [[i16; 3]; 3]
+    requires { ⌜ Small n ⌝ }
+    ensures { λ r. ⌜ r ≡ nineIn n ⌝ }
+{
+    [narrow_row(n[0]), narrow_row(n[1]), narrow_row(n[2])]
+}
+
 // 2P - W - E.
-fn across(n: [[i32; 3]; 3]) -> i32
+fn across(n: [[i16; 3]; 3]) -> i16
     requires { ⌜ Small n ⌝ }
     ensures { λ r. ⌜ r ≡ acrossOf n ⌝ }
 {
@@ -26,7 +55,7 @@ fn across(n: [[i32; 3]; 3]) -> i32
 }
 
 // 2P - N - S.
-fn upright(n: [[i32; 3]; 3]) -> i32
+fn upright(n: [[i16; 3]; 3]) -> i16
     requires { ⌜ Small n ⌝ }
     ensures { λ r. ⌜ r ≡ uprightOf n ⌝ }
 {
@@ -34,7 +63,7 @@ fn upright(n: [[i32; 3]; 3]) -> i32
 }
 
 // 4P - N - S - E - W.
-fn around(n: [[i32; 3]; 3]) -> i32
+fn around(n: [[i16; 3]; 3]) -> i16
     requires { ⌜ Small n ⌝ }
     ensures { λ r. ⌜ r ≡ aroundOf n ⌝ }
 {
@@ -42,63 +71,69 @@ fn around(n: [[i32; 3]; 3]) -> i32
 }
 
 // P + d times α, the quarters cut toward zero.
-fn enhance(quarters: u8, n: [[i32; 3]; 3], d: i32) -> i32
+fn enhance(quarters: u8, n: [[i16; 3]; 3], d: i16) -> i16
     requires { ⌜ Small n ⌝ }
     requires { ⌜ (quarters ≤ 20) × (natAbs d ≤ 1024) ⌝ }
     ensures { λ r. ⌜ r ≡ enhanced quarters n d ⌝ }
 {
-    (4 * n[1][1] + quarters as i32 * d) / 4
+    (4 * n[1][1] + quarters as i16 * d) / 4
 }
 
 // d times α, the quarters cut toward zero.
-fn extract(quarters: u8, d: i32) -> i32
+fn extract(quarters: u8, d: i16) -> i16
     requires { ⌜ (quarters ≤ 20) × (natAbs d ≤ 1024) ⌝ }
     ensures { λ r. ⌜ r ≡ extracted quarters d ⌝ }
 {
-    quarters as i32 * d / 4
+    quarters as i16 * d / 4
 }
 
-// The filters of modes 2, 3, C, D, E and F.
+// The filters of modes 2, 3, C, D, E and F, worked out in 16 bits.
 pub fn mode_2(quarters: u8, n: [[i32; 3]; 3]) -> i32
     requires { ⌜ (quarters ≤ 20) × Small n ⌝ }
     ensures { λ r. ⌜ r ≡ mode2 quarters n ⌝ }
 {
-    hold(enhance(quarters, n, across(n)))
+    let m = narrow(n);
+    hold_16(enhance(quarters, m, across(m))) as i32
 }
 
 pub fn mode_3(quarters: u8, n: [[i32; 3]; 3]) -> i32
     requires { ⌜ (quarters ≤ 20) × Small n ⌝ }
     ensures { λ r. ⌜ r ≡ mode3 quarters n ⌝ }
 {
-    hold(extract(quarters, across(n)))
+    let m = narrow(n);
+    hold_16(extract(quarters, across(m))) as i32
 }
 
 pub fn mode_c(quarters: u8, n: [[i32; 3]; 3]) -> i32
     requires { ⌜ (quarters ≤ 20) × Small n ⌝ }
     ensures { λ r. ⌜ r ≡ modeC quarters n ⌝ }
 {
-    hold(enhance(quarters, n, upright(n)))
+    let m = narrow(n);
+    hold_16(enhance(quarters, m, upright(m))) as i32
 }
 
 pub fn mode_d(quarters: u8, n: [[i32; 3]; 3]) -> i32
     requires { ⌜ (quarters ≤ 20) × Small n ⌝ }
     ensures { λ r. ⌜ r ≡ modeD quarters n ⌝ }
 {
-    hold(extract(quarters, upright(n)))
+    let m = narrow(n);
+    hold_16(extract(quarters, upright(m))) as i32
 }
 
 pub fn mode_e(quarters: u8, n: [[i32; 3]; 3]) -> i32
     requires { ⌜ (quarters ≤ 20) × Small n ⌝ }
     ensures { λ r. ⌜ r ≡ modeE quarters n ⌝ }
 {
-    hold(enhance(quarters, n, around(n)))
+    let m = narrow(n);
+    hold_16(enhance(quarters, m, around(m))) as i32
 }
 
 pub fn mode_f(quarters: u8, n: [[i32; 3]; 3]) -> i32
     requires { ⌜ (quarters ≤ 20) × Small n ⌝ }
     ensures { λ r. ⌜ r ≡ modeF quarters n ⌝ }
 {
-    hold(extract(quarters, around(n)))
+    let m = narrow(n);
+    hold_16(extract(quarters, around(m))) as i32
 }
 
 // Step 4: the value by the mode.

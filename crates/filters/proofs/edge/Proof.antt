@@ -1,10 +1,11 @@
 -- `filters::edge` meets its contract: each arm is its mode's. Assumes nothing.
+use mathlib.Core.Path.{refl}
 use borrow.Author.Needs.{needs}
 use borrow.Author.Tests.{ne-eqb}
 use mir.Syntax.{w32}
-use Rattle.laws.proofs.Signed.{got, read}
-use Rattle.filters.specs.Edge.{edgeOf}
-use Rattle.filters.proofs.Sums.{px}
+use Rattle.laws.proofs.Signed.{got}
+use Rattle.filters.specs.Edge.{nine, edgeOf}
+use Rattle.filters.proofs.Sums.{fine}
 use Rattle.filters.proofs.edge.Statement.{statement}
 use Rattle.filters.proofs.edge.Tie as tie
 
@@ -49,7 +50,7 @@ returns-8 c =
       ne-eqb _ _ (r .0 .0 .1),
       ne-eqb _ _ (r .0 .1),
       ne-eqb _ _ (r .1),
-    ) (read (px (b .args .t3) (b .pre .1) 1 1) tt)
+    ) (got w32 (fine w32 (nine (b .args .t3) 1 1) (b .pre .1 1 1)) refl)
 
 pub edge-spec : {M : Type 1} → statement M
 edge-spec =

@@ -1,21 +1,32 @@
 -- `filters::mode_3` meets its contract, from what its callees ensure: the sum is of a size that the next step takes. Assumes nothing.
 use borrow.Author.Needs.{needs}
-use Rattle.filters.specs.Edge.{held, extracted, mode3}
-use Rattle.filters.proofs.Sums.{across-size, handed, filtered}
+use Rattle.filters.specs.Edge.{acrossOf, extracted, mode3}
+use Rattle.filters.proofs.Sums.{across-size, nine-small, handed, widened, filtered}
 use Rattle.filters.proofs.mode_3.Statement.{statement}
 use Rattle.filters.proofs.mode_3.Tie as tie
+
+extract-requires : tie.Need-extract-requires
+extract-requires c κs =
+    let s = c .before .before in
+    let small = nine-small (s .args .n) (c .before .narrow .ensures) (s .pre .1) in
+    let size = handed (c .across .ok) (c .across .ensures) (across-size (c .before .narrow .result) small) in
+    (s .pre .0, size)
 
 returns : tie.Need-returns
 unfolding mode3
 returns c =
-    let a = c .before .before .before .args in
-    filtered held (extracted (a .quarters)) (c .hold .ok) (c .before .extract .ok) (c .before .before .across .ok) (c .hold .ensures) (c .before .extract .ensures) (c .before .before .across .ensures)
+    let e = c .before in
+    let d = e .before in
+    let a = d .before .before .args in
+    filtered (λ m. extracted (a .quarters)) acrossOf (a .n) (d .before .narrow .ensures) (e .extract .ok) (d .across .ok) (c .hold-16 .ensures) (e .extract .ensures) (d .across .ensures)
 
 pub mode-3-spec : {M : Type 1} → statement M
 mode-3-spec =
     tie.close
     (tie.spec
     (λ c κs. search needs)
-    (λ c κs. let s = c .before in (s .pre .0, handed (c .across .ok) (c .across .ensures) (across-size (s .args .n) (s .pre .1))))
+    (λ c κs. nine-small (c .before .args .n) (c .narrow .ensures) (c .before .pre .1))
+    extract-requires
     (λ c κs. search needs)
+    (λ c. widened _ (c .hold-16 .ensures))
     returns)

@@ -1,21 +1,32 @@
 -- `filters::mode_c` meets its contract, from what its callees ensure: the sum is of a size that the next step takes. Assumes nothing.
 use borrow.Author.Needs.{needs}
-use Rattle.filters.specs.Edge.{held, enhanced, modeC}
-use Rattle.filters.proofs.Sums.{upright-size, handed, filtered}
+use Rattle.filters.specs.Edge.{uprightOf, enhanced, modeC}
+use Rattle.filters.proofs.Sums.{upright-size, nine-small, handed, widened, filtered}
 use Rattle.filters.proofs.mode_c.Statement.{statement}
 use Rattle.filters.proofs.mode_c.Tie as tie
+
+enhance-requires : tie.Need-enhance-requires
+enhance-requires c κs =
+    let s = c .before .before in
+    let small = nine-small (s .args .n) (c .before .narrow .ensures) (s .pre .1) in
+    let size = handed (c .upright .ok) (c .upright .ensures) (upright-size (c .before .narrow .result) small) in
+    (small, (s .pre .0, size))
 
 returns : tie.Need-returns
 unfolding modeC
 returns c =
-    let a = c .before .before .before .args in
-    filtered held (enhanced (a .quarters) (a .n)) (c .hold .ok) (c .before .enhance .ok) (c .before .before .upright .ok) (c .hold .ensures) (c .before .enhance .ensures) (c .before .before .upright .ensures)
+    let e = c .before in
+    let d = e .before in
+    let a = d .before .before .args in
+    filtered (enhanced (a .quarters)) uprightOf (a .n) (d .before .narrow .ensures) (e .enhance .ok) (d .upright .ok) (c .hold-16 .ensures) (e .enhance .ensures) (d .upright .ensures)
 
 pub mode-c-spec : {M : Type 1} → statement M
 mode-c-spec =
     tie.close
     (tie.spec
     (λ c κs. search needs)
-    (λ c κs. let s = c .before in (s .pre .1, (s .pre .0, handed (c .upright .ok) (c .upright .ensures) (upright-size (s .args .n) (s .pre .1)))))
+    (λ c κs. nine-small (c .before .args .n) (c .narrow .ensures) (c .before .pre .1))
+    enhance-requires
     (λ c κs. search needs)
+    (λ c. widened _ (c .hold-16 .ensures))
     returns)

@@ -1,21 +1,32 @@
 -- `filters::mode_d` meets its contract, from what its callees ensure: the sum is of a size that the next step takes. Assumes nothing.
 use borrow.Author.Needs.{needs}
-use Rattle.filters.specs.Edge.{held, extracted, modeD}
-use Rattle.filters.proofs.Sums.{upright-size, handed, filtered}
+use Rattle.filters.specs.Edge.{uprightOf, extracted, modeD}
+use Rattle.filters.proofs.Sums.{upright-size, nine-small, handed, widened, filtered}
 use Rattle.filters.proofs.mode_d.Statement.{statement}
 use Rattle.filters.proofs.mode_d.Tie as tie
+
+extract-requires : tie.Need-extract-requires
+extract-requires c κs =
+    let s = c .before .before in
+    let small = nine-small (s .args .n) (c .before .narrow .ensures) (s .pre .1) in
+    let size = handed (c .upright .ok) (c .upright .ensures) (upright-size (c .before .narrow .result) small) in
+    (s .pre .0, size)
 
 returns : tie.Need-returns
 unfolding modeD
 returns c =
-    let a = c .before .before .before .args in
-    filtered held (extracted (a .quarters)) (c .hold .ok) (c .before .extract .ok) (c .before .before .upright .ok) (c .hold .ensures) (c .before .extract .ensures) (c .before .before .upright .ensures)
+    let e = c .before in
+    let d = e .before in
+    let a = d .before .before .args in
+    filtered (λ m. extracted (a .quarters)) uprightOf (a .n) (d .before .narrow .ensures) (e .extract .ok) (d .upright .ok) (c .hold-16 .ensures) (e .extract .ensures) (d .upright .ensures)
 
 pub mode-d-spec : {M : Type 1} → statement M
 mode-d-spec =
     tie.close
     (tie.spec
     (λ c κs. search needs)
-    (λ c κs. let s = c .before in (s .pre .0, handed (c .upright .ok) (c .upright .ensures) (upright-size (s .args .n) (s .pre .1))))
+    (λ c κs. nine-small (c .before .args .n) (c .narrow .ensures) (c .before .pre .1))
+    extract-requires
     (λ c κs. search needs)
+    (λ c. widened _ (c .hold-16 .ensures))
     returns)

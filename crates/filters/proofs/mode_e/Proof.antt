@@ -1,21 +1,32 @@
 -- `filters::mode_e` meets its contract, from what its callees ensure: the sum is of a size that the next step takes. Assumes nothing.
 use borrow.Author.Needs.{needs}
-use Rattle.filters.specs.Edge.{held, enhanced, modeE}
-use Rattle.filters.proofs.Sums.{around-size, handed, filtered}
+use Rattle.filters.specs.Edge.{aroundOf, enhanced, modeE}
+use Rattle.filters.proofs.Sums.{around-size, nine-small, handed, widened, filtered}
 use Rattle.filters.proofs.mode_e.Statement.{statement}
 use Rattle.filters.proofs.mode_e.Tie as tie
+
+enhance-requires : tie.Need-enhance-requires
+enhance-requires c κs =
+    let s = c .before .before in
+    let small = nine-small (s .args .n) (c .before .narrow .ensures) (s .pre .1) in
+    let size = handed (c .around .ok) (c .around .ensures) (around-size (c .before .narrow .result) small) in
+    (small, (s .pre .0, size))
 
 returns : tie.Need-returns
 unfolding modeE
 returns c =
-    let a = c .before .before .before .args in
-    filtered held (enhanced (a .quarters) (a .n)) (c .hold .ok) (c .before .enhance .ok) (c .before .before .around .ok) (c .hold .ensures) (c .before .enhance .ensures) (c .before .before .around .ensures)
+    let e = c .before in
+    let d = e .before in
+    let a = d .before .before .args in
+    filtered (enhanced (a .quarters)) aroundOf (a .n) (d .before .narrow .ensures) (e .enhance .ok) (d .around .ok) (c .hold-16 .ensures) (e .enhance .ensures) (d .around .ensures)
 
 pub mode-e-spec : {M : Type 1} → statement M
 mode-e-spec =
     tie.close
     (tie.spec
     (λ c κs. search needs)
-    (λ c κs. let s = c .before in (s .pre .1, (s .pre .0, handed (c .around .ok) (c .around .ensures) (around-size (s .args .n) (s .pre .1)))))
+    (λ c κs. nine-small (c .before .args .n) (c .narrow .ensures) (c .before .pre .1))
+    enhance-requires
     (λ c κs. search needs)
+    (λ c. widened _ (c .hold-16 .ensures))
     returns)

@@ -1,0 +1,16 @@
+-- The nine values written out, as the narrowed ones are made: devices of private functions, which need not be believed. Assumes nothing.
+use mathlib.Core.List.{List, [], _∷_}
+use Prim.Native.Nat.{ℕ, _<_}
+use lib.IntN.{ℤ, pos}
+use lib.Signed.{mag}
+use lib.ListN.{getD}
+
+-- each of three lies in −128..127
+abbrev pub SmallRow : List ℤ → Type 0
+SmallRow n = (j : ℕ) → mag (getD n j (pos 0)) < 128
+
+abbrev pub threeIn : List ℤ → List ℤ
+threeIn n = getD n 0 (pos 0) ∷ getD n 1 (pos 0) ∷ getD n 2 (pos 0) ∷ []
+
+abbrev pub nineIn : List (List ℤ) → List (List ℤ)
+nineIn n = threeIn (getD n 0 []) ∷ threeIn (getD n 1 []) ∷ threeIn (getD n 2 []) ∷ []
