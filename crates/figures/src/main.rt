@@ -14,7 +14,7 @@ fn exposed(v: u8, exposure: u16) {
     text(b" at ");
     word(exposure);
     text(b"h gives ");
-    number(lighting::expose(exposure as u32, v) as u64);
+    number(lighting::expose(exposure, v) as u64);
     text(b"\n");
 }
 

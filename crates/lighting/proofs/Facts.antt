@@ -1,20 +1,22 @@
 -- The ranges that light and settings keep. Assumes nothing.
-use mathlib.Core.Bool.{_&&_}
+use mathlib.Core.Path.{_≡_, sym, ap, _∙_}
+use mathlib.Core.Bool.{Bool, _&&_}
 use mathlib.Core.List.{List, [], _∷_}
-use Prim.Native.Nat.{ℕ, zero, suc, _/_, _%_, _≤_, _<_}
+use Prim.Native.Nat.{ℕ, zero, suc, _+_, _*_, _/_, _%_, _≤_, _<_}
+use native.Mathlib.Nat.{mul-le-mul, mul-add, mul-assoc}
 use native.Mathlib.Omega.{arith}
 use lib.IntN.{natAbs}
 use lib.ListN.{getD}
 use lib.Signed.{nonNeg}
 use mir.Facts.{and-yes}
-use lib.Dec.{T, ltb, ltb→lt, lit≤}
+use lib.Dec.{T, eqb, eqb→eq, ltb, ltb→lt, lit≤}
 use Rattle.laws.proofs.Table.{at}
 use Rattle.laws.proofs.Pick.{pick-ind}
 use Rattle.lighting.specs.declared.Setting.{Setting}
-use Rattle.lighting.specs.Taken.{exposureOf, alphas, quartersOf, settingOf, Sane}
-use Rattle.lighting.specs.Light.{adaptedZ, exposed, turned, lightOf}
+use Rattle.lighting.specs.Taken.{alphas, quartersOf, settingOf, Sane}
+use Rattle.lighting.specs.Light.{adaptedZ, adapted, exposed, turned, lightOf}
 
--- ---- the light
+-- ---- the adaptation
 
 -- step 1 of a byte is a byte, by one test of all 256
 none : ℕ → List ℕ
@@ -26,6 +28,37 @@ unfolding adaptedZ none
 adapted-byte v h =
     let p = and-yes (nonNeg (adaptedZ v)) (ltb (natAbs (adaptedZ v)) 256) (at (λ k x. nonNeg (adaptedZ k) && ltb (natAbs (adaptedZ k)) 256) (none 256) tt v h) in
     (p .0, ltb→lt (natAbs (adaptedZ v)) 256 (p .1))
+
+-- step 1 by means: of v or, from 128 on, of its negative
+abbrev meanOf : ℕ → ℕ → ℕ
+meanOf a b = (a + b + 1) / 2
+
+abbrev pub adaptedBy : Bool → ℕ → ℕ
+adaptedBy up v = turned up (meanOf (turned up v) (meanOf (turned up 128) (meanOf (turned up 128) (turned up v))))
+
+-- it is step 1, by one test of all 256 again
+pub adapted-means : (v : ℕ) → v < 256 → adaptedBy (ltb 127 v) v ≡ adapted v
+unfolding adapted adaptedZ turned none
+adapted-means v h =
+    eqb→eq (adaptedBy (ltb 127 v) v) (adapted v) (at (λ k x. eqb (adaptedBy (ltb 127 k) k) (adapted k)) (none 256) tt v h)
+
+-- ---- the exposure
+
+-- times its high byte and times its low byte
+pub exposure-split : (v e : ℕ) → v * (e / 256) + v * (e % 256) / 256 ≡ v * e / 256
+exposure-split v e =
+    let whole : e ≡ e / 256 * 256 + e % 256 = omega arith in
+    let parts : v * e ≡ v * (e / 256) * 256 + v * (e % 256) = ap (λ (n : ℕ). v * n) whole ∙ mul-add v (e / 256 * 256) (e % 256) ∙ ap (λ (n : ℕ). n + v * (e % 256)) (sym (mul-assoc v (e / 256) 256)) in
+    omega (arith, parts)
+
+-- a byte times a byte
+pub bytes-product : (a b : ℕ) → a < 256 → b < 256 → a * b ≤ 65025
+bytes-product a b h k =
+    let m : a ≤ 255 = omega arith in
+    let n : b ≤ 255 = omega arith in
+    mul-le-mul m n
+
+-- ---- the light
 
 -- the light of any byte is a byte
 pub light-small : (set : Setting) (v : ℕ) → lightOf set v < 256
@@ -45,12 +78,7 @@ quarters-small (suc (suc (suc (suc (suc (suc zero)))))) = lit≤ tt
 quarters-small (suc (suc (suc (suc (suc (suc (suc zero))))))) = lit≤ tt
 quarters-small (suc (suc (suc (suc (suc (suc (suc (suc k)))))))) = lit≤ tt
 
--- an exposure below 65,536 is all that is wanted of the registers
-pub exposure-sane : (regs : List ℕ) → exposureOf regs < 65536 → Sane (settingOf regs)
+-- whatever the registers hold
+pub setting-sane : (regs : List ℕ) → Sane (settingOf regs)
 unfolding settingOf quartersOf
-exposure-sane regs h = record { exposure = h; quarters = quarters-small (getD regs 4 0 / 16 % 8) }
-
--- registers that are bytes have it
-pub setting-sane : (regs : List ℕ) → ((k : ℕ) → getD regs k 0 < 256) → Sane (settingOf regs)
-unfolding exposureOf
-setting-sane regs bytes = exposure-sane regs (omega (arith, bytes 2, bytes 3))
+setting-sane regs = record { quarters = quarters-small (getD regs 4 0 / 16 % 8) }

@@ -2,7 +2,7 @@
 use mathlib.Core.Path.{_≡_}
 use mathlib.Core.Bool.{Bool}
 use mathlib.Core.List.{List, [], _∷_}
-use Prim.Native.Nat.{ℕ, _+_, _*_, _/_, _%_, _≤_, _<_}
+use Prim.Native.Nat.{ℕ, _+_, _*_, _/_, _%_, _≤_}
 use lib.ListN.{getD}
 use Rattle.laws.specs.Bits.{isSet}
 use Rattle.lighting.specs.declared.Setting.{Setting}
@@ -41,12 +41,11 @@ settingOf regs = record {
   kind = kindOf regs;
 }
 
--- the ranges that these numbers lie in, whatever the registers hold
+-- the range that the quarters lie in, whatever the registers hold
 pub record Sane (set : Setting) : Type 0 where
-  pub exposure : set .exposure < 65536
   pub quarters : set .quarters ≤ 20
 
--- a setting is what the registers ask, and in its ranges
+-- a setting is what the registers ask, and in its range
 pub record Asked (set : Setting) (regs : List ℕ) : Type 0 where
   pub same : set ≡ settingOf regs
   pub sane : Sane set

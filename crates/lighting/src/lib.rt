@@ -2,12 +2,12 @@
 ghost use mathlib.Core.Path.{_≡_};
 ghost use Prim.Native.Nat.{_+_, _-_, _/_, _%_, _<_};
 ghost use lib.ListN.{length, getD};
-ghost use Rattle.lighting.specs.Taken.{exposureOf, alphas, Sane, Asked};
+ghost use Rattle.lighting.specs.Taken.{exposureOf, alphas, Asked};
 ghost use Rattle.lighting.specs.Light.{adapted, exposed, turned, lightOf, lightFrame};
 
 // What the registers taken ask of every pixel, worked out once.
 pub struct Setting {
-    pub exposure: u32,
+    pub exposure: u16,
     pub inverted: bool,
     pub mode: u8,
     pub quarters: u8,
@@ -18,10 +18,10 @@ pub struct Setting {
 const ALPHAS: [u8; 8] = [2, 3, 4, 5, 8, 12, 16, 20];
 
 // A byte as a wider number, with its bound.
-fn wide(x: u8) -> u32
+fn wide(x: u8) -> u16
     ensures { λ r. ⌜ (r ≡ x) × (r < 256) ⌝ }
 {
-    x as u32
+    x as u16
 }
 
 // α in quarters of the byte of A004.
@@ -31,9 +31,9 @@ fn quarters_of(byte: u8) -> u8
     ALPHAS[(byte / 16 % 8) as usize]
 }
 
-// The exposure of the registers, with the bound that two bytes have.
-fn exposure_of(regs: &[u8; 54]) -> u32
-    ensures { λ r. ⌜ (r ≡ exposureOf (now (regs .entry))) × (r < 65536) ⌝ }
+// The exposure of the registers.
+fn exposure_of(regs: &[u8; 54]) -> u16
+    ensures { λ r. ⌜ r ≡ exposureOf (now (regs .entry)) ⌝ }
 {
     wide(regs[2]) * 256 + wide(regs[3])
 }
@@ -53,25 +53,6 @@ impl Setting {
     }
 }
 
-// Step 1, by its formula: a loop over pixels becomes vector code, and no table is carried.
-pub fn adapt(v: u8) -> u8
-    ensures { λ r. ⌜ r ≡ adapted v ⌝ }
-{
-    (128 + (v as i32 - 128) * 5 / 8) as u8
-}
-
-// Step 2: times exposure / 256, at most 255.
-pub fn expose(exposure: u32, v: u8) -> u8
-    requires { ⌜ exposure < 65536 ⌝ }
-    ensures { λ r. ⌜ r ≡ exposed exposure v ⌝ }
-{
-    let n = wide(v) * exposure / 256;
-    if n < 255 {
-        return n as u8;
-    }
-    255
-}
-
 // Step 3: 255 - v if the picture is turned to its negative.
 pub fn turn(inverted: bool, v: u8) -> u8
     ensures { λ r. ⌜ r ≡ turned inverted v ⌝ }
@@ -82,9 +63,38 @@ pub fn turn(inverted: bool, v: u8) -> u8
     v
 }
 
+// Half of a sum, rounded up.
+fn mean(a: u8, b: u8) -> u8
+    ensures { λ r. ⌜ r ≡ (a + b + 1) / 2 ⌝ }
+{
+    ((a as u16 + b as u16 + 1) / 2) as u8
+}
+
+// Step 1: 5/8 of v and 3/8 of 128, from means, which a vector takes sixteen bytes at a time. They round up, as below 128 is
+// asked; from 128 on the negative is adapted.
+pub fn adapt(v: u8) -> u8
+    ensures { λ r. ⌜ r ≡ adapted v ⌝ }
+{
+    let up = 127 < v;
+    let u = turn(up, v);
+    let c = turn(up, 128);
+    turn(up, mean(u, mean(c, mean(c, u))))
+}
+
+// Step 2: times exposure / 256, at most 255. Times its high byte and times its low byte, so that 16 bits do.
+pub fn expose(exposure: u16, v: u8) -> u8
+    ensures { λ r. ⌜ r ≡ exposed exposure v ⌝ }
+{
+    let w = wide(v);
+    let n = w * (exposure / 256) + w * (exposure % 256) / 256;
+    if n < 255 {
+        return n as u8;
+    }
+    255
+}
+
 // Steps 1 to 3, before 128 is subtracted.
 pub fn light(set: Setting, v: u8) -> u8
-    requires { ⌜ Sane set ⌝ }
     ensures { λ r. ⌜ r ≡ lightOf set v ⌝ }
 {
     turn(set.inverted, expose(set.exposure, adapt(v)))
@@ -93,7 +103,6 @@ pub fn light(set: Setting, v: u8) -> u8
 // The light of a whole image: steps 1 to 3 of each pixel, before 128 is subtracted.
 pub fn light_frame(image: &[u8], set: Setting, store: &mut [u8])
     requires { ⌜ (length (now store) ≡ 16384) × (length (now image) ≡ 16384) ⌝ }
-    requires { ⌜ Sane set ⌝ }
     ensures { λ _. ⌜ now (store .exit) ≡ lightFrame (now (image .entry)) set ⌝ }
 {
     for i in 0..16384 {

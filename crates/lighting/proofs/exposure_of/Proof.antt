@@ -7,7 +7,7 @@ use Rattle.lighting.proofs.exposure_of.Tie as tie
 
 returns : tie.Need-returns
 unfolding exposureOf
-returns c = (omega arith, omega arith)
+returns c = omega arith
 
 pub exposure-of-spec : {M : Type 1} → statement M
 exposure-of-spec =

@@ -24,7 +24,7 @@ light-frame-requires c κs =
     let e = c .before .before .before in
     let image = e .before .before .before .before .args .image .now in
     let f = picture-fits image (fits-none (pictureRows image) _ (e .before .before .no-frame .ensures) (e .enum-told .given .1)) in
-    ((search needs, frame-lent _ f), search needs)
+    (search needs, frame-lent _ f)
 
 returns-2 : tie.Need-returns-2
 unfolding pictureRows lowest
