@@ -3,48 +3,28 @@ use controller::Verdict;
 use controller::judge::no_ram;
 use controller::judge::no_room;
 use shades::Output;
-use shades::put_shades;
+use shades::put_tones;
 ghost use mathlib.Core.Path.{_≡_};
 ghost use mathlib.Core.List.{_++_};
-ghost use Prim.Native.Nat.{ℕ, _<_, _≤_};
-ghost use lib.ListN.{length, getD, drop};
+ghost use Prim.Native.Nat.{_≤_};
+ghost use lib.ListN.{length, drop};
 ghost use Rattle.laws.specs.Lists.{listed};
 ghost use Rattle.controller.specs.Outcome.{verdictNumber};
 ghost use Rattle.controller.specs.Table.{lowest};
-ghost use Rattle.plates.specs.Grey.{header, greyOf, greyAt, plateOf, exportRows, exportMeans};
+ghost use Rattle.plates.specs.Grey.{header, greyAt, plateOf, exportRows, exportMeans};
 ghost use Rattle.shades.specs.Shades.{outputNumber, outputValue, exported};
-ghost use Rattle.shades.specs.Eight.{Shades};
 
 // What a file starts with: kind, columns, rows and largest value.
 pub const HEADER: [u8; 15] = *b"P5\n128 112\n255\n";
 // The bytes of a file.
 pub const FILE: usize = 14351;
 
-// The grey of a shade.
-fn grey(shade: u8) -> u8
-    requires { ⌜ shade < 4 ⌝ }
-    ensures { λ r. ⌜ r ≡ greyOf shade ⌝ }
-{
-    255 - 85 * shade
-}
-
-// Shades, made greys where they stand.
-fn put_greys(pixels: &mut [u8])
-    requires { ⌜ (length (now pixels) ≡ 14336) × Shades (now pixels) ⌝ }
-    ensures { λ _. ⌜ now (pixels .exit) ≡ listed (λ k. greyOf (getD (now (pixels .entry)) k 0)) 14336 ⌝ }
-{
-    for k in 0..tiles::PIXELS {
-        pixels[k] = grey(pixels[k]);
-    }
-}
-
-// All pixels, row by row.
+// All pixels, row by row: 85 darker for the low bit and 170 for the high bit.
 fn put_pixels(ram: &[u8], pixels: &mut [u8])
     requires { ⌜ (8192 ≤ length (now ram)) × (length (now pixels) ≡ 14336) ⌝ }
     ensures { λ _. ⌜ now (pixels .exit) ≡ listed (greyAt (now (ram .entry))) 14336 ⌝ }
 {
-    put_shades(ram, pixels);
-    put_greys(pixels);
+    put_tones(ram, 85, 170, true, pixels);
 }
 
 // The header's bytes.

@@ -1,3 +1,3 @@
 -- Laws of the area as shades, and of what is answered where bytes are put in a lent buffer.
-pub mod Eight
+pub mod Tones
 pub mod Outputs

@@ -3,14 +3,16 @@ use controller::Refusal;
 use controller::Verdict;
 use controller::judge::no_ram;
 use controller::judge::no_room;
+use lighting::turn;
 ghost use mathlib.Core.Path.{_≡_};
+ghost use mathlib.Core.Bool.{Bool};
 ghost use Prim.Native.Nat.{_+_, _<_, _≤_};
 ghost use lib.ListN.{length};
 ghost use Rattle.laws.specs.Lists.{listed};
 ghost use Rattle.controller.specs.Outcome.{verdictNumber};
 ghost use Rattle.controller.specs.Table.{lowest};
 ghost use Rattle.shades.specs.Shades.{shadeNth, outputNumber, outputValue, exported, shadesRows, shadesMeans};
-ghost use Rattle.shades.specs.Eight.{putFirst};
+ghost use Rattle.shades.specs.Tones.{weightOf, spreadOf, toneOf, toneNth};
 
 // How many bytes were written, or why none.
 pub enum Output {
@@ -18,32 +20,80 @@ pub enum Output {
     Refused(Refusal),
 }
 
-// Puts the shades of eight pixels of a row, from their low bits and their high bits.
-fn put_eight(pixels: &mut [u8], at: usize, low: u8, high: u8)
-    requires { ⌜ (at + 8 ≤ length (now pixels)) × (at < 14336) ⌝ }
-    ensures { λ _. ⌜ now (pixels .exit) ≡ putFirst (now (pixels .entry)) at low high 8 ⌝ }
+// The weights of a byte's bits, the first pixel's the highest.
+const EIGHT: [u8; 8] = [128, 64, 32, 16, 8, 4, 2, 1];
+
+// The weight that each column's bit has in its byte.
+pub fn weights() -> [u8; 128]
+    ensures { λ r. ⌜ r ≡ listed weightOf 128 ⌝ }
 {
-    pixels[at] = low / 128 % 2 + 2 * (high / 128 % 2);
-    pixels[at + 1] = low / 64 % 2 + 2 * (high / 64 % 2);
-    pixels[at + 2] = low / 32 % 2 + 2 * (high / 32 % 2);
-    pixels[at + 3] = low / 16 % 2 + 2 * (high / 16 % 2);
-    pixels[at + 4] = low / 8 % 2 + 2 * (high / 8 % 2);
-    pixels[at + 5] = low / 4 % 2 + 2 * (high / 4 % 2);
-    pixels[at + 6] = low / 2 % 2 + 2 * (high / 2 % 2);
-    pixels[at + 7] = low / 1 % 2 + 2 * (high / 1 % 2);
+    let mut out = [0u8; 128];
+    for t in 0..16 {
+        for b in 0..8 {
+            out[8 * t + b] = EIGHT[b];
+        }
+    }
+    out
 }
 
-// All pixels, row by row, eight at a time: each byte of the area is read once.
-pub fn put_shades(ram: &[u8], pixels: &mut [u8])
+// The sixteen bytes of a row of tiles from a place on, each at its eight columns.
+fn spread(ram: &[u8], at: usize) -> [u8; 128]
+    requires { ⌜ (at + 240 < length (now ram)) × (at < 8192) ⌝ }
+    ensures { λ r. ⌜ r ≡ listed (spreadOf (now (ram .entry)) at) 128 ⌝ }
+{
+    let mut out = [0u8; 128];
+    for t in 0..16 {
+        for b in 0..8 {
+            out[8 * t + b] = ram[at + 16 * t];
+        }
+    }
+    out
+}
+
+// What a bit of a byte adds where it is set.
+fn tone(byte: u8, weight: u8, added: u8) -> u8
+    ensures { λ r. ⌜ (r ≡ toneOf byte weight added) × (r ≤ added) ⌝ }
+{
+    if byte & weight == 0 {
+        return 0;
+    }
+    added
+}
+
+// All pixels, row by row, with no branch on a pixel: `low` for its low bit and `high` for its high bit, or the negative of that.
+fn put_rows(ram: &[u8], weights: &[u8; 128], low: u8, high: u8, negative: bool, pixels: &mut [u8])
+    requires { ⌜ (8192 ≤ length (now ram)) × (length (now pixels) ≡ 14336) ⌝ }
+    requires { ⌜ (now weights ≡ listed weightOf 128) × (low + high < 256) ⌝ }
+    ensures { λ _. ⌜ now (pixels .exit) ≡ listed (toneNth low high negative (now (ram .entry))) 14336 ⌝ }
+{
+    for y in 0..112 {
+        let at = tiles::PICTURE + 256 * (y / 8) + 2 * (y % 8);
+        let l = spread(ram, at);
+        let h = spread(ram, at + 1);
+        for x in 0..128 {
+            pixels[128 * y + x] = turn(
+                negative,
+                tone(l[x], weights[x], low) + tone(h[x], weights[x], high),
+            );
+        }
+    }
+}
+
+pub fn put_tones(ram: &[u8], low: u8, high: u8, negative: bool, pixels: &mut [u8])
+    requires { ⌜ (8192 ≤ length (now ram)) × (length (now pixels) ≡ 14336) ⌝ }
+    requires { ⌜ low + high < 256 ⌝ }
+    ensures { λ _. ⌜ now (pixels .exit) ≡ listed (toneNth low high negative (now (ram .entry))) 14336 ⌝ }
+{
+    let columns = weights();
+    put_rows(ram, &columns, low, high, negative, pixels);
+}
+
+// All pixels as shades.
+fn put_shades(ram: &[u8], pixels: &mut [u8])
     requires { ⌜ (8192 ≤ length (now ram)) × (length (now pixels) ≡ 14336) ⌝ }
     ensures { λ _. ⌜ now (pixels .exit) ≡ listed (shadeNth (now (ram .entry))) 14336 ⌝ }
 {
-    for y in 0..112 {
-        for t in 0..16 {
-            let o = tiles::PICTURE + 16 * (16 * (y / 8) + t) + 2 * (y % 8);
-            put_eight(pixels, 8 * (16 * y + t), ram[o], ram[o + 1]);
-        }
-    }
+    put_tones(ram, 1, 2, false, pixels);
 }
 
 // What a reading of shades was lent, judged.
