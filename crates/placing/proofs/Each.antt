@@ -1,6 +1,6 @@
 -- A test at each of the first n places: its laws. Assumes nothing.
 use mathlib.Core.Path.{_≡_, refl, ap, _∙_}
-use mathlib.Core.Bool.{Bool, true, false, and-false}
+use mathlib.Core.Bool.{Bool, true, false, _&&_, and-false}
 use Prim.Native.Nat.{ℕ, zero, suc, _+_, _<_}
 use native.Mathlib.Numerals.{add-one}
 use native.Mathlib.Omega.{arith}
@@ -17,6 +17,11 @@ module _ (test : ℕ → Bool) where
   pub each-more : (n : ℕ) → each test n ≡ true → test n ≡ true → each test (n + 1) ≡ true
   unfolding each
   each-more n e t = simp (add-one, e, t)
+
+  -- whether it holds there
+  pub each-next : (n : ℕ) → each test (n + 1) ≡ (each test n && test n)
+  unfolding each
+  each-next n = simp add-one
 
   -- where it fails at one place
   pub each-fails : (n k : ℕ) → k < n → test k ≡ false → each test n ≡ false

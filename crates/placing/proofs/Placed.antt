@@ -8,7 +8,7 @@ use lib.ListN.{length, getD, take, drop, length-drop}
 use lib.Seq.{take-all}
 use lib.Dec.{eqb}
 use borrow.Author.Tests.{eqb-true}
-use Rattle.laws.proofs.Bools.{not-fails, both-left}
+use Rattle.laws.proofs.Bools.{not-fails, both-left, both-right}
 use Rattle.laws.specs.Pick.{pick}
 use Rattle.controller.specs.declared.Controller.{Controller}
 use Rattle.controller.specs.declared.Refusal.the-variants.{State, Held}
@@ -23,7 +23,7 @@ use Rattle.controller.proofs.Afresh.{only-picture}
 use Rattle.controller.proofs.Refusals.{Refuses, inOutcome, refuses, judged-pick, risingFrom, first-fails}
 use Rattle.laws.proofs.Packed.{packed-ext}
 use Rattle.tiles.proofs.Area.{columnOf, rowOf, byteOf, byteOf-low, byteOf-high}
-use Rattle.placing.specs.Placing.{isPlate, shadeOf, shadeAt, placedByte, placedIn, noPlate, placed, placeRows, placeMeans}
+use Rattle.placing.specs.Placing.{hasHeader, onlyGreys, isPlate, shadeOf, shadeAt, placedByte, placedIn, noPlate, placed, placeRows, placeMeans}
 use Rattle.placing.specs.Eight.{lowsAt, highsAt}
 
 -- a placing is refused by the lowest number of its rows, and only then
@@ -85,6 +85,13 @@ plate-length file e = eqb-true (length file) 14351 (both-left (eqb (length file)
 -- what stands after the header, cut at its end
 pub pixels-whole : (file : List ℕ) → length file ≡ 14351 → take 14336 (drop 15 file) ≡ drop 15 file
 pixels-whole file e = take-all 14336 (drop 15 file) (rw (length-drop 15 file) (omega arith))
+
+-- and its pixels are greys
+pub plate-greys : (file : List ℕ) → isPlate file ≡ true → onlyGreys (take 14336 (drop 15 file)) ≡ true
+unfolding isPlate
+plate-greys file e =
+    ap onlyGreys (pixels-whole file (plate-length file e))
+    ∙ both-right (hasHeader file) (onlyGreys (drop 15 file)) (both-right (eqb (length file) 14351) _ e)
 
 -- a shade is one of four
 pub shadeOf-small : (grey : ℕ) → shadeOf grey < 4

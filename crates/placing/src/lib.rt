@@ -7,15 +7,17 @@ use controller::judge::no_ram;
 use controller::judge::refused_if;
 use plates::grey::FILE;
 use plates::grey::HEADER;
-use tiles::TileRow;
 ghost use mathlib.Core.Path.{_≡_};
+ghost use mathlib.Core.Bool.{true};
 ghost use mathlib.Core.List.{[]};
-ghost use Prim.Native.Nat.{_+_, _<_, _≤_};
+ghost use Prim.Native.Nat.{_+_, _*_, _%_, _<_, _≤_};
 ghost use lib.ListN.{length};
+ghost use Rattle.laws.specs.Lists.{listed};
+ghost use Rattle.shades.specs.Tones.{weightOf};
 ghost use Rattle.controller.specs.Outcome.{verdictNumber, writeNumber, outcome};
 ghost use Rattle.controller.specs.Table.{lowest};
-ghost use Rattle.placing.specs.Placing.{hasHeader, isGrey, onlyGreys, isPlate, shadeOf, placedArea, placeRows, placeMeans};
-ghost use Rattle.placing.specs.Eight.{lowsAt, highsAt};
+ghost use Rattle.placing.specs.Placing.{hasHeader, isGrey, onlyGreys, isPlate, placedArea, placeRows, placeMeans};
+ghost use Rattle.placing.specs.Eight.{lowsAt, highsAt, weighed, weighedAt, sumAt, Weighed};
 
 // The end of the picture area in RAM bank 0.
 const END: usize = 0xF00;
@@ -33,33 +35,23 @@ fn has_header(file: &[u8]) -> bool
     true
 }
 
-// Whether a byte is one of the four greys.
+// Whether a byte is one of the four greys: 85 times what its two lowest bits say.
 fn is_grey(v: u8) -> bool
     ensures { λ r. ⌜ r ≡ isGrey v ⌝ }
 {
-    if v == 255 {
-        return true;
-    }
-    if v == 170 {
-        return true;
-    }
-    if v == 85 {
-        return true;
-    }
-    v == 0
+    v == 85 * (v % 4)
 }
 
-// Whether each pixel is a grey.
+// Whether each pixel is a grey: all are looked at, so that a vector takes many of them at once.
 fn only_greys(pixels: &[u8]) -> bool
     requires { ⌜ length (now pixels) ≡ 14336 ⌝ }
     ensures { λ r. ⌜ r ≡ onlyGreys (now (pixels .entry)) ⌝ }
 {
+    let mut all = true;
     for k in 0..tiles::PIXELS {
-        if !is_grey(pixels[k]) {
-            return false;
-        }
+        all = all & is_grey(pixels[k]);
     }
-    true
+    all
 }
 
 // Whether a file is of the kind that is exported.
@@ -75,38 +67,93 @@ fn is_plate(file: &[u8]) -> bool
     only_greys(&file[15..FILE])
 }
 
-// The shade of a grey.
-fn shade(v: u8) -> u8
-    ensures { λ r. ⌜ (r ≡ shadeOf v) × (r < 4) ⌝ }
+// What a grey adds to a byte: a bit of its shade is set where that bit of the grey is not.
+fn weigh(grey: u8, bit: u8, weight: u8) -> u8
+    ensures { λ r. ⌜ r ≡ weighed bit grey weight ⌝ }
 {
-    (255 - v) / 85
-}
-
-// Eight pixels of a row as two bytes, the first pixel's bits the highest.
-fn tile_row(pixels: &[u8], at: usize) -> TileRow
-    requires { ⌜ (at + 8 ≤ length (now pixels)) × (at < 14336) ⌝ }
-    ensures { λ r. ⌜ (r .low ≡ lowsAt (now (pixels .entry)) at) × (r .high ≡ highsAt (now (pixels .entry)) at) ⌝ }
-{
-    let mut low: u8 = 0;
-    let mut high: u8 = 0;
-    for b in 0..8 {
-        let s = shade(pixels[at + b]);
-        low = low * 2 + s % 2;
-        high = high * 2 + s / 2;
+    if grey & bit == 0 {
+        return weight;
     }
-    TileRow { low, high }
+    0
 }
 
-// The area's bytes in order, two a turn: tile by tile, row by row of each.
-fn put_area(pixels: &[u8], area: &mut [u8])
+// What each pixel of a row adds to its byte of low bits and to its byte of high bits.
+fn weigh_row(pixels: &[u8], weights: &[u8; 128], at: usize, low: &mut [u8], high: &mut [u8])
+    requires { ⌜ (at + 128 ≤ length (now pixels)) × (at < 14336) ⌝ }
+    requires { ⌜ (now weights ≡ listed weightOf 128) × (length (now low) ≡ 128) × (length (now high) ≡ 128) ⌝ }
+    ensures { λ _. ⌜ (now (low .exit) ≡ listed (weighedAt 1 (now (pixels .entry)) at) 128) × (now (high .exit) ≡ listed (weighedAt 2 (now (pixels .entry)) at) 128) ⌝ }
+{
+    for x in 0..128 {
+        low[x] = weigh(pixels[at + x], 1, weights[x]);
+        high[x] = weigh(pixels[at + x], 2, weights[x]);
+    }
+}
+
+// The sum of what eight pixels add.
+fn sum_of(s: &[u8; 128], x: usize) -> u8
+    requires { ⌜ (x < 121) × (x % 8 ≡ 0) × Weighed (now s) ⌝ }
+    ensures { λ r. ⌜ r ≡ sumAt (now (s .entry)) x ⌝ }
+{
+    s[x] + s[x + 1] + s[x + 2] + s[x + 3] + s[x + 4] + s[x + 5] + s[x + 6] + s[x + 7]
+}
+
+// A row's sixteen bytes of low bits, and of high bits.
+struct Sixteen {
+    low: [u8; 16],
+    high: [u8; 16],
+}
+
+fn sums(low: &[u8; 128], high: &[u8; 128]) -> Sixteen
+    requires { ⌜ Weighed (now low) × Weighed (now high) ⌝ }
+    ensures { λ r. ⌜ (r .low ≡ listed (λ t. sumAt (now (low .entry)) (8 * t)) 16) × (r .high ≡ listed (λ t. sumAt (now (high .entry)) (8 * t)) 16) ⌝ }
+{
+    let mut l = [0u8; 16];
+    let mut h = [0u8; 16];
+    for t in 0..16 {
+        l[t] = sum_of(low, 8 * t);
+        h[t] = sum_of(high, 8 * t);
+    }
+    Sixteen { low: l, high: h }
+}
+
+// Those of the row of greys from a place on, the first pixel's bits the highest.
+fn pack(pixels: &[u8], weights: &[u8; 128], at: usize) -> Sixteen
+    requires { ⌜ (length (now pixels) ≡ 14336) × (at + 128 ≤ 14336) ⌝ }
+    requires { ⌜ (now weights ≡ listed weightOf 128) × (onlyGreys (now pixels) ≡ true) ⌝ }
+    ensures { λ r. ⌜ (r .low ≡ listed (λ t. lowsAt (now (pixels .entry)) (at + 8 * t)) 16) × (r .high ≡ listed (λ t. highsAt (now (pixels .entry)) (at + 8 * t)) 16) ⌝ }
+{
+    let mut low = [0u8; 128];
+    let mut high = [0u8; 128];
+    weigh_row(pixels, weights, at, &mut low, &mut high);
+    sums(&low, &high)
+}
+
+// The area's bytes, row by row of the picture.
+fn put_rows(pixels: &[u8], weights: &[u8; 128], area: &mut [u8])
     requires { ⌜ (length (now pixels) ≡ 14336) × (length (now area) ≡ 3584) ⌝ }
+    requires { ⌜ (now weights ≡ listed weightOf 128) × (onlyGreys (now pixels) ≡ true) ⌝ }
     ensures { λ _. ⌜ now (area .exit) ≡ placedArea (now (pixels .entry)) ⌝ }
 {
-    for j in 0..1792 {
-        let row = tile_row(pixels, 128 * (8 * (j / 128) + j % 8) + 8 * (j / 8 % 16));
-        area[2 * j] = row.low;
-        area[2 * j + 1] = row.high;
+    for y in 0..112 {
+        let row = pack(pixels, weights, 128 * y);
+        let low = row.low;
+        let high = row.high;
+        for t in 0..16 {
+            let o = 16 * (16 * (y / 8) + t) + 2 * (y % 8);
+            let p = o + 1;
+            area[o] = low[t];
+            area[p] = high[t];
+        }
     }
+}
+
+fn put_area(pixels: &[u8], area: &mut [u8])
+    requires { ⌜ (length (now pixels) ≡ 14336) × (length (now area) ≡ 3584) ⌝ }
+    requires { ⌜ onlyGreys (now pixels) ≡ true ⌝ }
+    ensures { λ _. ⌜ now (area .exit) ≡ placedArea (now (pixels .entry)) ⌝ }
+{
+    let columns = shades::weights();
+    put_rows(pixels, &columns, area);
 }
 
 // What a placing was lent, judged.

@@ -9,7 +9,7 @@ use Rattle.controller.specs.Outcome.{outcome}
 use Rattle.timing.proofs.Lent.{ram-lent}
 use Rattle.controller.proofs.Refusals.{by-why, by-fits, fits-none}
 use Rattle.placing.specs.Placing.{placedArea, placedIn}
-use Rattle.placing.proofs.Placed.{PlaceFits, place-refuses, place-fits, plate-length, pixels-whole}
+use Rattle.placing.proofs.Placed.{PlaceFits, place-refuses, place-fits, plate-length, plate-greys, pixels-whole}
 use borrow.Author.Needs.{needs}
 use Rattle.placing.proofs.place.Statement.{statement}
 use Rattle.placing.proofs.place.Tie as tie
@@ -52,6 +52,6 @@ place-spec =
     (λ c. search needs)
     (λ c. search needs)
     (λ c. omega (arith, ram-lent _ (fits (c .before) .ram-fits) .least))
-    (λ c κs. search needs)
+    (λ c κs. ((search needs, search needs), plate-greys _ (fits (c .before .before) .file-fits)))
     (λ c. search needs)
     returns-2)

@@ -1,0 +1,34 @@
+-- `placing::sum_of` meets its contract: the weights of eight columns add up to 255. Assumes nothing.
+use native.Mathlib.Omega.{arith}
+use Rattle.placing.proofs.Weighed.{room}
+use borrow.Author.Needs.{needs}
+use Rattle.placing.proofs.sum_of.Statement.{statement}
+use Rattle.placing.proofs.sum_of.Tie as tie
+
+pub sum-of-spec : {M : Type 1} → statement M
+sum-of-spec =
+    tie.close
+    (tie.spec
+    (λ c. search needs)
+    (λ c. search needs)
+    (λ c. search needs)
+    (λ c. let s = c .before .before in omega (arith, room _ (s .args .x) (s .pre .0) (s .pre .1) (s .pre .2)))
+    (λ c. search needs)
+    (λ c. search needs)
+    (λ c. let s = c .before .before .before in omega (arith, room _ (s .args .x) (s .pre .0) (s .pre .1) (s .pre .2)))
+    (λ c. search needs)
+    (λ c. search needs)
+    (λ c. let s = c .before .before .before .before in omega (arith, room _ (s .args .x) (s .pre .0) (s .pre .1) (s .pre .2)))
+    (λ c. search needs)
+    (λ c. search needs)
+    (λ c. let s = c .before .before .before .before .before in omega (arith, room _ (s .args .x) (s .pre .0) (s .pre .1) (s .pre .2)))
+    (λ c. search needs)
+    (λ c. search needs)
+    (λ c. let s = c .before .before .before .before .before .before in omega (arith, room _ (s .args .x) (s .pre .0) (s .pre .1) (s .pre .2)))
+    (λ c. search needs)
+    (λ c. search needs)
+    (λ c. let s = c .before .before .before .before .before .before .before in omega (arith, room _ (s .args .x) (s .pre .0) (s .pre .1) (s .pre .2)))
+    (λ c. search needs)
+    (λ c. search needs)
+    (λ c. let s = c .before .before .before .before .before .before .before .before in omega (arith, room _ (s .args .x) (s .pre .0) (s .pre .1) (s .pre .2)))
+    (λ c. search needs))
