@@ -1,13 +1,13 @@
 // An answer as one number: the refusal's number * 2^32 + the value.
 use controller::Refusal;
 use controller::WriteAnswer;
-use lines::record::Recorded;
+use recording::record::Recorded;
 use shades::Output;
 ghost use mathlib.Core.Path.{_≡_};
 ghost use mathlib.Core.List.{[]};
 ghost use Prim.Native.Nat.{_≤_};
 ghost use Rattle.controller.specs.Outcome.{numberOf, writeNumber};
-ghost use Rattle.lines.specs.Record.{recorded};
+ghost use Rattle.recording.specs.Record.{recorded};
 ghost use Rattle.shades.specs.Shades.{outputNumber, outputValue};
 ghost use Rattle.answers.specs.Packed.{packed};
 

@@ -34,10 +34,10 @@ use Rattle.controller.proofs.Refusals.{Refuses, inOutcome, judged-ind}
 use Rattle.cartridge.proofs.Refusals.{read-refuses, write-refuses}
 use Rattle.capture.proofs.Refusals.{tick-refuses}
 use Rattle.lines.specs.declared.line.Frame.{Frame}
-use Rattle.lines.specs.declared.record.Recorded.{Recorded}
-use Rattle.lines.specs.declared.record.Recorded.the-variants as answers
-use Rattle.lines.specs.Record.{Recording, recorded, recordMeans}
-use Rattle.lines.proofs.Recorded.{record-most}
+use Rattle.recording.specs.declared.record.Recorded.{Recorded}
+use Rattle.recording.specs.declared.record.Recorded.the-variants as answers
+use Rattle.recording.specs.Record.{Recording, recorded, recordMeans}
+use Rattle.recording.proofs.Recorded.{record-most}
 use Rattle.shades.specs.declared.Output.{Output}
 use Rattle.shades.specs.Shades.{Exported, exported, outputNumber, outputValue, shadesMeans}
 use Rattle.plates.specs.Grey.{exportMeans}

@@ -24,8 +24,8 @@ use Rattle.controller.proofs.Refusals.{Refuses, inOutcome, judged-ind}
 use Rattle.cartridge.proofs.Refusals.{read-refuses, write-refuses}
 use Rattle.capture.proofs.Refusals.{tick-refuses}
 use Rattle.lines.specs.declared.line.Frame.{Frame}
-use Rattle.lines.specs.Record.{recordMeans}
-use Rattle.lines.proofs.Recorded.{record-most}
+use Rattle.recording.specs.Record.{recordMeans}
+use Rattle.recording.proofs.Recorded.{record-most}
 use Rattle.shades.specs.Shades.{Exported, exported, shadesMeans}
 use Rattle.plates.specs.Grey.{exportMeans}
 use Rattle.placing.specs.Placing.{placeMeans}

@@ -13,7 +13,7 @@ use Rattle.capture.specs.Calls.{tickMeans}
 use Rattle.controller.specs.Inspect.{inspectMeans}
 use Rattle.controller.specs.Picture.{Afresh, pictureMeans}
 use Rattle.lines.specs.declared.line.Frame.{Frame}
-use Rattle.lines.specs.Record.{Recording, recordMeans}
+use Rattle.recording.specs.Record.{Recording, recordMeans}
 use Rattle.shades.specs.Shades.{Exported, shadesMeans}
 use Rattle.plates.specs.Grey.{exportMeans}
 use Rattle.placing.specs.Placing.{placeMeans}

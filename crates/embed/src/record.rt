@@ -1,11 +1,11 @@
 // Frames written as script lines, for a recorder of a live session. The answer's value is the line's length with its LF.
 use answers::line_answer;
 use lines::line::Frame;
-use lines::record::record_read;
-use lines::record::record_reset;
-use lines::record::record_row;
-use lines::record::record_tick;
-use lines::record::record_write;
+use recording::record::record_read;
+use recording::record::record_reset;
+use recording::record::record_row;
+use recording::record::record_tick;
+use recording::record::record_write;
 ghost use mathlib.Core.Path.{_≡_};
 ghost use mathlib.Core.List.{[]};
 ghost use Rattle.embed.specs.Exports.{filled, recordBytes};

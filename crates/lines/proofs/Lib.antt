@@ -2,7 +2,5 @@
 pub mod Digits
 pub mod Frames
 pub mod Placed
-pub mod Written
-pub mod Accepted
+pub mod Spelt
 pub mod Malformed
-pub mod Recorded

@@ -17,7 +17,7 @@ use Rattle.lines.specs.Line.{isHex, worth, hexPart, numberAt, isLine, sp
 use Rattle.lines.specs.Kinds.{allHex, ofKind, saysReset, saysRead, saysWrite, saysTick, saysRow, saidBy, isKind, isMalformed}
 use Rattle.lines.proofs.Digits.{both, clash, first-half, second-half, and-true, and-false, worth-small, digit-back, hex-parts, hex-stops}
 use Rattle.lines.proofs.Frames.{good, bad}
-use Rattle.lines.proofs.Accepted.{digit-worth}
+use Rattle.lines.proofs.Spelt.{digit-worth}
 
 -- two tests that hold together are the same
 same-test : (x y : Bool) → (x ≡ true → y ≡ true) → (y ≡ true → x ≡ true) → x ≡ y

@@ -2,4 +2,3 @@
 pub mod Line
 pub mod Kinds
 pub mod Hex
-pub mod Record

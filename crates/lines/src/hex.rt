@@ -5,7 +5,7 @@ ghost use lib.ListN.{length};
 ghost use Rattle.lines.specs.Hex.{digitByte, hexText, printed, placed};
 
 // A digit's byte.
-pub(crate) fn digit_byte(d: u8) -> u8
+pub fn digit_byte(d: u8) -> u8
     requires { ⌜ d < 16 ⌝ }
     ensures { λ r. ⌜ r ≡ digitByte d ⌝ }
 {
@@ -16,7 +16,7 @@ pub(crate) fn digit_byte(d: u8) -> u8
 }
 
 // Puts n digits of a value into a buffer, the last digit first.
-pub(crate) fn put_digits(out: &mut [u8], at: usize, n: usize, value: u32)
+pub fn put_digits(out: &mut [u8], at: usize, n: usize, value: u32)
     requires { ⌜ at + n ≤ length (now out) ⌝ }
     ensures { λ _. ⌜ now (out .exit) ≡ placed (now (out .entry)) at (hexText n value) ⌝ }
 {

@@ -1,5 +1,4 @@
-// One line of the bus script: its digits, the reader, the frame that it says, and frames written as lines.
+// One line of the bus script: its digits, the reader, the frame that it says.
 pub mod hex;
 pub mod line;
 pub mod reader;
-pub mod record;

@@ -24,7 +24,7 @@ use Rattle.lines.specs.declared.line.Frame.{Frame}
 use Rattle.lines.specs.declared.line.Frame.the-variants.{Reset, Read, Write, Tick, Row as RowFrame, Malformed}
 use Rattle.lines.specs.Hex.{printed}
 use Rattle.lines.specs.Line.{numberAt, frameOf}
-use Rattle.lines.proofs.Accepted.{text-number}
+use Rattle.lines.proofs.Spelt.{text-number}
 use Rattle.script.specs.Answer.{answerText}
 use Rattle.script.specs.Session.{World, world, step, rowTaken, rowImage, rowText, frameStep, stepOf}
 use Rattle.refusing.specs.Line.{inStep, leavesWorld, lineTable, lineDone}

@@ -29,8 +29,8 @@ use Rattle.controller.proofs.Refusals.{Refuses, Given, refuses, inOutcome, risi
 use Rattle.cartridge.proofs.Refusals.{read-refuses, write-refuses}
 use Rattle.capture.proofs.Refusals.{tick-refuses}
 use Rattle.lines.specs.declared.line.Frame.{Frame}
-use Rattle.lines.specs.Record.{lineOf, cantSay, recordRows, filled as line-filled}
-use Rattle.lines.proofs.Recorded.{record-refuses}
+use Rattle.recording.specs.Record.{lineOf, cantSay, recordRows, filled as line-filled}
+use Rattle.recording.proofs.Recorded.{record-refuses}
 use Rattle.plates.specs.Grey.{plateOf, exportRows}
 use Rattle.shades.specs.Shades.{shadesOf, shadesRows}
 use Rattle.placing.specs.Placing.{placeRows, placed}

@@ -13,7 +13,7 @@ use Rattle.laws.specs.Iter.{iter-keeps}
 use Rattle.laws.proofs.Bools.{either}
 use Rattle.laws.proofs.Pick.{pick-ind, never}
 use Rattle.lines.specs.Line.{hexPart}
-use Rattle.lines.specs.Record.{ended}
+use Rattle.recording.specs.Record.{ended}
 use Rattle.lines.proofs.Frames.{bad}
 use Rattle.script.specs.Text.{begins, linesOf}
 use Rattle.script.proofs.Replayed.{endless, line-ends}

@@ -8,7 +8,7 @@ use native.Mathlib.Omega.{arith}
 use lib.ListN.{length, getD, take, drop, set, length-append, length-drop}
 use lib.Seq.{take-suc, length-take-le}
 use Rattle.lines.specs.Hex.{placed}
-use Rattle.lines.specs.Record.{ended}
+use Rattle.recording.specs.Record.{ended}
 use Rattle.lines.proofs.Placed.{placed-one, placed-next, length-placed}
 use Rattle.salvaging.specs.Kept.{accepted, textOf, keptOr, markOf, leftAfter, marks}
 use Rattle.salvaging.specs.Aside.{between}

@@ -9,7 +9,7 @@ use Rattle.laws.specs.Iter.{iter}
 use Rattle.lines.specs.declared.line.Frame.{Frame}
 use Rattle.lines.specs.declared.line.Frame.the-variants.{Reset, Read, Write, Tick, Row, Malformed}
 use Rattle.lines.specs.Line.{frameOf}
-use Rattle.lines.specs.Record.{ended}
+use Rattle.recording.specs.Record.{ended}
 
 -- a line is accepted where it says a frame, and malformed where it says none
 abbrev pub isFrame : Frame → Bool

@@ -7,7 +7,7 @@ ghost use mathlib.Core.Bool.{Bool};
 ghost use Prim.Native.Nat.{_+_, _≤_};
 ghost use lib.ListN.{length, take};
 ghost use Rattle.lines.specs.Hex.{placed};
-ghost use Rattle.lines.specs.Record.{ended};
+ghost use Rattle.recording.specs.Record.{ended};
 ghost use Rattle.script.specs.Text.{linesOf};
 ghost use Rattle.salvaging.specs.Kept.{textOf, markOf, leftAfter, marks};
 ghost use Rattle.salvaging.specs.Aside.{acceptedAt};

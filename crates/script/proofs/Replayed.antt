@@ -18,11 +18,11 @@ use Rattle.lines.specs.declared.line.Frame.{Frame}
 use Rattle.lines.specs.declared.line.Frame.the-variants.{Reset, Read, Write, Tick, Row, Malformed}
 use Rattle.lines.specs.Hex.{placed}
 use Rattle.lines.specs.Line.{isHex, hexPart}
-use Rattle.lines.specs.Record.{lineOf, ended}
+use Rattle.recording.specs.Record.{lineOf, ended}
 use Rattle.lines.proofs.Digits.{second-half, clash, hex-within}
 use Rattle.lines.proofs.Frames.{bad}
 use Rattle.lines.proofs.Placed.{placed-none, placed-one, placed-next, length-placed}
-use Rattle.lines.proofs.Recorded.{Sayable, reset, read, write, tick, row, written-read, written-byte}
+use Rattle.recording.proofs.Recorded.{Sayable, reset, read, write, tick, row, written-read, written-byte}
 use Rattle.script.specs.Session.{World, world, step, rowTaken, rowImage, rowText, frameStep, stepOf}
 use Rattle.script.specs.Text.{begins, linesOf, after, played, sessionOf}
 use Rattle.script.specs.Recording.{Call, callLines, recordingOf, rowLent, callStep, callsMade}

@@ -23,7 +23,7 @@ use Rattle.lines.specs.declared.line.Frame.the-variants.{Reset, Read, Write, Ti
 use Rattle.lines.specs.Hex.{hexText, printed}
 use Rattle.lines.specs.Line.{frameOf}
 use Rattle.lines.specs.Kinds.{isKind, isMalformed}
-use Rattle.lines.proofs.Accepted.{text-number}
+use Rattle.lines.proofs.Spelt.{text-number}
 use Rattle.lines.proofs.Malformed.{only}
 use Rattle.script.specs.Answer.{answerText, numberSaid}
 use Rattle.script.specs.Session.{World, rowText, frameStep, stepOf}

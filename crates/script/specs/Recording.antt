@@ -7,7 +7,7 @@ use Rattle.timing.specs.Lent.{frameAllowed}
 use Rattle.lines.specs.declared.line.Frame.{Frame}
 use Rattle.lines.specs.declared.line.Frame.the-variants.{Reset, Read, Write, Tick, Row, Malformed}
 use Rattle.lines.specs.Hex.{placed}
-use Rattle.lines.specs.Record.{lineOf, ended}
+use Rattle.recording.specs.Record.{lineOf, ended}
 use Rattle.script.specs.Session.{World, Step, world, step, rowText, frameStep}
 use Rattle.script.specs.Text.{after}
 

@@ -3,8 +3,8 @@ use mathlib.Core.Path.{sym, ap, _∙_}
 use mathlib.Core.List.{[]}
 use native.Mathlib.Omega.{arith}
 use borrow.Author.Needs.{needs}
-use Rattle.lines.specs.declared.record.Recorded.{Recorded}
-use Rattle.lines.specs.Record.{recorded}
+use Rattle.recording.specs.declared.record.Recorded.{Recorded}
+use Rattle.recording.specs.Record.{recorded}
 use Rattle.answers.specs.Packed.{packed}
 use Rattle.answers.proofs.line_answer.Statement.{statement}
 use Rattle.answers.proofs.line_answer.Tie as tie

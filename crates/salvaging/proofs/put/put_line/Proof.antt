@@ -5,7 +5,7 @@ use native.Mathlib.Omega.{arith}
 use lib.ListN.{length, getD, take, set, length-set}
 use lib.Seq.{take-all, length-take-le}
 use Rattle.lines.specs.Hex.{placed}
-use Rattle.lines.specs.Record.{ended}
+use Rattle.recording.specs.Record.{ended}
 use Rattle.lines.proofs.Placed.{placed-none}
 use Rattle.salvaging.proofs.Puts.{stored, stored-byte}
 use Rattle.salvaging.proofs.put.put_line.Statement.{statement}

@@ -1,8 +1,8 @@
--- `lines::record::row_allowed` meets its contract: its tests are the definition's. Assumes nothing.
+-- `recording::record::row_allowed` meets its contract: its tests are the definition's. Assumes nothing.
 use borrow.Author.Tests.{lt-leb, le-leb}
-use Rattle.lines.specs.Record.{rowAllowed}
-use Rattle.lines.proofs.record.row_allowed.Statement.{statement}
-use Rattle.lines.proofs.record.row_allowed.Tie as tie
+use Rattle.recording.specs.Record.{rowAllowed}
+use Rattle.recording.proofs.record.row_allowed.Statement.{statement}
+use Rattle.recording.proofs.record.row_allowed.Tie as tie
 
 returns : tie.Need-returns
 unfolding rowAllowed

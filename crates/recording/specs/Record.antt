@@ -7,12 +7,12 @@ use lib.ListN.{length}
 use Rattle.controller.specs.declared.Refusal.the-variants as refusals
 use Rattle.controller.specs.Outcome.{numberOf}
 use Rattle.controller.specs.Table.{Row, row, lowest, judged}
 use Rattle.lines.specs.declared.line.Frame.{Frame}
 use Rattle.lines.specs.declared.line.Frame.the-variants.{Reset, Read, Write, Tick, Row as RowFrame, Malformed}
-use Rattle.lines.specs.declared.record.Recorded.{Recorded}
-use Rattle.lines.specs.declared.record.Recorded.the-variants as answers
+use Rattle.recording.specs.declared.record.Recorded.{Recorded}
+use Rattle.recording.specs.declared.record.Recorded.the-variants as answers
 use Rattle.lines.specs.Hex.{hexText, placed}
 use Rattle.lines.specs.Line.{numberAt}
 
 -- `01` four-digit address
 abbrev pub readLine : ℕ → List ℕ

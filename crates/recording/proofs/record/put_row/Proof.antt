@@ -1,12 +1,12 @@
--- `lines::record::put_row` meets its contract: kind, row, bytes and LF are put one after another. Assumes nothing.
+-- `recording::record::put_row` meets its contract: kind, row, bytes and LF are put one after another. Assumes nothing.
 use mathlib.Core.Path.{ap, _∙_}
 use lib.ListN.{set, length-set}
 use borrow.Author.Needs.{needs}
 use Rattle.lines.specs.Hex.{hexText, placed}
-use Rattle.lines.specs.Record.{rowHex}
-use Rattle.lines.proofs.Written.{row-put}
-use Rattle.lines.proofs.record.put_row.Statement.{statement}
-use Rattle.lines.proofs.record.put_row.Tie as tie
+use Rattle.recording.specs.Record.{rowHex}
+use Rattle.recording.proofs.Written.{row-put}
+use Rattle.recording.proofs.record.put_row.Statement.{statement}
+use Rattle.recording.proofs.record.put_row.Tie as tie
 
 same-length : tie.Need-same-length
 same-length c =

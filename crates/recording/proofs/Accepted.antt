@@ -1,75 +1,21 @@
--- For each frame its line: the digits of a number spell that number, and each of the five kinds is accepted. Assumes nothing.
+-- For each frame its line: each of the five kinds is accepted. Assumes nothing.
 use mathlib.Core.Path.{_≡_, refl, sym, ap, _∙_}
 use mathlib.Core.Bool.{true}
 use mathlib.Core.List.{List, [], _∷_, _++_, append-assoc, append-nil}
-use Prim.Native.Nat.{ℕ, zero, suc, _+_, _-_, _*_, _/_, _%_, _^_, _<_, _≤_}
-use native.Mathlib.Nat.{pow-suc}
+use Prim.Native.Nat.{ℕ, suc, _+_, _*_, _<_, _≤_}
 use native.Mathlib.Omega.{arith}
 use lib.Dec.{lit<}
-use lib.ListN.{length, getD, length-append}
-use lib.Seq.{getD-append-add, getD-at}
-use borrow.Author.Tests.{eq-eqb, le-leb, lt-leb, lt-ltb, le-ltb}
-use Rattle.laws.proofs.Order.{split}
+use lib.ListN.{length, length-append}
+use borrow.Author.Tests.{eq-eqb, le-leb}
 use Rattle.lines.specs.declared.line.Frame.the-variants.{Reset, Read, Write, Tick, Row}
-use Rattle.lines.specs.Line.{isHex, worth, hexPart, numberAt, spelled, frameOf}
+use Rattle.lines.specs.Line.{hexPart, numberAt, spelled, frameOf}
 use Rattle.lines.specs.Hex.{digitByte, hexText}
-use Rattle.lines.specs.Record.{readLine, writeLine, tickLine, rowHex, rowLine}
-use Rattle.lines.proofs.Digits.{Spells, both, hex-joined}
+use Rattle.recording.specs.Record.{readLine, writeLine, tickLine, rowHex, rowLine}
+use Rattle.lines.proofs.Digits.{hex-joined}
 use Rattle.lines.proofs.Placed.{length-hex}
 use Rattle.lines.proofs.Frames.{good}
-use Rattle.lines.proofs.Written.{length-row}
-
--- a digit's byte is a digit, and worth what it was made of
-digit-hex : (d : ℕ) → d < 16 → isHex (digitByte d) ≡ true
-unfolding digitByte
-digit-hex d h =
-    split d 10
-    (λ l. simp (lt-ltb d 10 l, le-leb 0x30 (0x30 + d) (omega arith), le-leb (0x30 + d) 0x39 (omega arith)))
-    (λ l. let b = 0x41 + (d - 10) in simp (le-ltb d 10 l, le-leb 0x30 b (omega arith), lt-leb b 0x39 (omega arith), le-leb 0x41 b (omega arith), le-leb b 0x46 (omega arith)))
-
-pub digit-worth : (d : ℕ) → d < 16 → worth (digitByte d) ≡ d
-unfolding digitByte
-digit-worth d h =
-    split d 10
-    (λ l. simp (lt-ltb d 10 l, le-leb (0x30 + d) 0x39 (omega arith)) (omega arith))
-    (λ l. simp (le-ltb d 10 l, lt-leb (0x41 + (d - 10)) 0x39 (omega arith)) (omega arith))
-
--- the last of a number's digits, with what stands before and after them
-module _ (pre post : List ℕ) (n v : ℕ) where
-  abbrev shown : List ℕ
-  shown = pre ++ (hexText n (v / 16) ++ (digitByte (v % 16) ∷ post))
-
-  last-apart : pre ++ (hexText (suc n) v ++ post) ≡ shown
-  unfolding hexText
-  last-apart = ap (λ r. pre ++ r) (append-assoc (hexText n (v / 16)) (digitByte (v % 16) ∷ []) post)
-
-  last-digit : getD shown (length pre + n) 0 ≡ digitByte (v % 16)
-  last-digit =
-      getD-append-add pre (hexText n (v / 16) ++ (digitByte (v % 16) ∷ post)) n 0
-      ∙ getD-at (hexText n (v / 16)) (digitByte (v % 16)) post 0 n (length-hex n (v / 16))
-
-text-hex : (pre post : List ℕ) (n v : ℕ) → hexPart (pre ++ (hexText n v ++ post)) (length pre) n ≡ true
-unfolding hexPart
-text-hex pre post zero v = refl
-text-hex pre post (suc n) v =
-    rw (last-apart pre post n v)
-    (both _ _ (text-hex pre (digitByte (v % 16) ∷ post) n (v / 16))
-    (ap isHex (last-digit pre post n v) ∙ digit-hex (v % 16) (omega arith)))
-
-pub text-number : (pre post : List ℕ) (n v : ℕ) → v < 16 ^ n → numberAt (pre ++ (hexText n v ++ post)) (length pre) n ≡ v
-unfolding numberAt
-text-number pre post zero v h = omega arith
-text-number pre post (suc n) v h =
-    let s : v < 16 ^ n * 16 = rw pow-suc at h in
-    let a = text-number pre (digitByte (v % 16) ∷ post) n (v / 16) (omega arith) in
-    let d = ap worth (last-digit pre post n v) ∙ digit-worth (v % 16) (omega arith) in
-    rw (last-apart pre post n v, a, d) (omega arith)
-
--- what n digits of a line spell
-spells : (line pre post : List ℕ) (at n v : ℕ) → line ≡ pre ++ (hexText n v ++ post) → at ≡ length pre → v < 16 ^ n → Spells line at n v
-spells line pre post at n v e p h =
-    let hex : hexPart line at n ≡ true = rw (e, p) (text-hex pre post n v) in
-    record { hex = hex; is = sym (rw (e, p) (text-number pre post n v h)); small = h }
+use Rattle.lines.proofs.Spelt.{text-hex, spells}
+use Rattle.recording.proofs.Written.{length-row}
 
 -- `00` reset
 pub accepts-reset : frameOf (hexText 2 0) ≡ Reset

@@ -16,17 +16,18 @@ use Rattle.tiles.specs.Tiles.{Bytes}
 use Rattle.controller.specs.Table.{lowest}
 use Rattle.controller.proofs.Only.{some-number, only-number}
 use Rattle.controller.proofs.Refusals.{Refuses}
 use Rattle.lines.specs.declared.line.Frame.{Frame}
 use Rattle.lines.specs.declared.line.Frame.the-variants.{Reset, Read, Write, Tick, Row, Malformed}
-use Rattle.lines.specs.declared.record.Recorded.{Recorded}
-use Rattle.lines.specs.declared.record.Recorded.the-variants as answers
+use Rattle.recording.specs.declared.record.Recorded.{Recorded}
+use Rattle.recording.specs.declared.record.Recorded.the-variants as answers
 use Rattle.lines.specs.Hex.{digitByte, hexText, placed}
 use Rattle.lines.specs.Line.{isLine, worth, hexPart, numberAt, spelled, frameOf}
-use Rattle.lines.specs.Record.{rowHex, rowLine, lineOf, cantSay, ended, recordRows, Recording, unrecorded, filled, recordMeans, recorded, bytesAt}
+use Rattle.recording.specs.Record.{rowHex, rowLine, lineOf, cantSay, ended, recordRows, Recording, unrecorded, filled, recordMeans, recorded, bytesAt}
 use Rattle.lines.proofs.Digits.{first-half, second-half, clash, worth-small, digit-back, hex-parts, hex-within}
 use Rattle.lines.proofs.Placed.{length-hex, take-placed, drop-placed}
-use Rattle.lines.proofs.Written.{inRecording, line-refuses, line-fits, length-digits, row-long, length-row-line}
-use Rattle.lines.proofs.Accepted.{text-number, accepts-reset, accepts-read, accepts-write, accepts-tick, accepts-row}
+use Rattle.recording.proofs.Written.{inRecording, line-refuses, line-fits, length-digits, row-long, length-row-line}
+use Rattle.lines.proofs.Spelt.{text-number}
+use Rattle.recording.proofs.Accepted.{accepts-reset, accepts-read, accepts-write, accepts-tick, accepts-row}
 
 -- ---- written, and read back
 

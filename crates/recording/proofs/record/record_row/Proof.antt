@@ -1,4 +1,4 @@
--- `lines::record::record_row` meets its contract: it is judged, and then put. Assumes nothing.
+-- `recording::record::record_row` meets its contract: it is judged, and then put. Assumes nothing.
 use mathlib.Core.Path.{_≡_, sym, _∙_}
 use mathlib.Core.Bool.{not}
 use mathlib.Core.List.{List}
@@ -11,10 +11,10 @@ use Rattle.controller.specs.declared.Verdict.the-variants as verdicts
 use Rattle.controller.specs.Outcome.{verdictNumber}
 use Rattle.controller.specs.Table.{Row, lowest}
 use Rattle.controller.proofs.Refusals.{by-why, by-fits, fits-none}
-use Rattle.lines.specs.Record.{rowLine, rowAllowed, lineOf, cantSay, recordRows, recording, recordMeans}
-use Rattle.lines.proofs.Written.{line-refuses, line-fits, length-row-line, row-long, row-judged}
-use Rattle.lines.proofs.record.record_row.Statement.{statement}
-use Rattle.lines.proofs.record.record_row.Tie as tie
+use Rattle.recording.specs.Record.{rowLine, rowAllowed, lineOf, cantSay, recordRows, recording, recordMeans}
+use Rattle.recording.proofs.Written.{line-refuses, line-fits, length-row-line, row-long, row-judged}
+use Rattle.recording.proofs.record.record_row.Statement.{statement}
+use Rattle.recording.proofs.record.record_row.Tie as tie
 
 -- where it is judged: the start, and what the judging came to
 abbrev start : tie.After-refused-if → tie.Start

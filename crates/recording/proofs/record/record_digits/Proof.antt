@@ -1,4 +1,4 @@
--- `lines::record::record_digits` meets its contract: it is judged, and then put. Assumes nothing.
+-- `recording::record::record_digits` meets its contract: it is judged, and then put. Assumes nothing.
 use mathlib.Core.Path.{sym, ap, _∙_}
 use mathlib.Core.Bool.{false}
 use Prim.Native.Nat.{_+_}
@@ -6,11 +6,11 @@ use native.Mathlib.Nat.{zero-add}
 use native.Mathlib.Omega.{arith}
 use borrow.Author.Needs.{needs}
 use Rattle.controller.proofs.Refusals.{by-why, by-fits, fits-none}
 use Rattle.lines.specs.Hex.{placed}
-use Rattle.lines.specs.Record.{recording}
-use Rattle.lines.proofs.Written.{line-refuses, line-fits, numbers, ended-printed, length-digits, digits-judged}
-use Rattle.lines.proofs.record.record_digits.Statement.{statement}
-use Rattle.lines.proofs.record.record_digits.Tie as tie
+use Rattle.recording.specs.Record.{recording}
+use Rattle.recording.proofs.Written.{line-refuses, line-fits, numbers, ended-printed, length-digits, digits-judged}
+use Rattle.recording.proofs.record.record_digits.Statement.{statement}
+use Rattle.recording.proofs.record.record_digits.Tie as tie
 
 returns : tie.Need-returns
 returns c =

@@ -1,15 +1,15 @@
--- `lines::record::put_bytes` meets its contract: the invariant is the buffer with the digits of the bytes so far. Assumes nothing.
+-- `recording::record::put_bytes` meets its contract: the invariant is the buffer with the digits of the bytes so far. Assumes nothing.
 use mathlib.Core.Path.{_≡_, refl, sym, ap, _∙_}
 use Prim.Native.Nat.{_≤_, _+_, _-_, _*_}
 use native.Mathlib.Omega.{arith}
 use lib.ListN.{length, take, set, length-set}
 use lib.Seq.{take-all}
 use Rattle.lines.specs.Hex.{placed}
-use Rattle.lines.specs.Record.{rowHex}
+use Rattle.recording.specs.Record.{rowHex}
 use Rattle.lines.proofs.Placed.{placed-none}
-use Rattle.lines.proofs.Written.{row-stored}
-use Rattle.lines.proofs.record.put_bytes.Statement.{statement}
-use Rattle.lines.proofs.record.put_bytes.Tie as tie
+use Rattle.recording.proofs.Written.{row-stored}
+use Rattle.recording.proofs.record.put_bytes.Statement.{statement}
+use Rattle.recording.proofs.record.put_bytes.Tie as tie
 
 abbrev Inv-loop : tie.InvT-loop
 Inv-loop out₀ at bytes i₀ out i = (i ≤ length bytes) × (length out ≡ length out₀) × (out ≡ placed out₀ at (rowHex (take i bytes)))

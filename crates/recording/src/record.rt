@@ -1,11 +1,11 @@
 // Frames written as lines into a lent buffer, which is what a live session is recorded with.
-use super::hex::digit_byte;
-use super::hex::put_digits;
-use super::hex::put_line;
-use super::line::Frame;
 use controller::Refusal;
 use controller::Verdict;
 use controller::judge::refused_if;
+use lines::hex::digit_byte;
+use lines::hex::put_digits;
+use lines::hex::put_line;
+use lines::line::Frame;
 ghost use mathlib.Core.Path.{_≡_};
 ghost use mathlib.Core.Bool.{false};
 ghost use mathlib.Core.List.{[], _++_};
@@ -13,8 +13,8 @@ ghost use Prim.Native.Nat.{_+_, _*_, _≤_};
 ghost use lib.ListN.{length};
 ghost use Rattle.controller.specs.Outcome.{verdictNumber};
 ghost use Rattle.controller.specs.Table.{before};
 ghost use Rattle.lines.specs.Hex.{hexText, placed};
-ghost use Rattle.lines.specs.Record.{rowHex, rowLine, rowAllowed, ended, tooShort, lineMeans, recordMeans, recorded};
+ghost use Rattle.recording.specs.Record.{rowHex, rowLine, rowAllowed, ended, tooShort, lineMeans, recordMeans, recorded};
 
 // The bytes of an image row, and of its line with the LF.
 pub const ROW: usize = 128;

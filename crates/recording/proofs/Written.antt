@@ -12,9 +12,9 @@ use borrow.Author.Tests.{eqb-true, ltb-false}
 use Rattle.laws.proofs.Bools.{either, both-right}
 use Rattle.controller.specs.Table.{before, lowest}
 use Rattle.controller.proofs.Refusals.{Refuses, refuses, risingFrom, first-fails}
 use Rattle.lines.specs.Hex.{digitByte, hexText, printed, placed}
-use Rattle.lines.specs.Record.{rowHex, rowLine, rowAllowed, ended, noLine, tooShort, recordRows, Recording, unrecorded, filled, lineMeans}
+use Rattle.recording.specs.Record.{rowHex, rowLine, rowAllowed, ended, noLine, tooShort, recordRows, Recording, unrecorded, filled, lineMeans}
 use Rattle.lines.proofs.Placed.{length-hex, length-printed, length-placed, placed-next, placed-one}
 
 -- the last two digits apart
 last-two : (n x : ℕ) → hexText (suc (suc n)) x ≡ hexText n (x / 16 / 16) ++ (digitByte (x / 16 % 16) ∷ digitByte (x % 16) ∷ [])

@@ -1,14 +1,14 @@
--- `lines::record::record_write` meets its contract: `02` and six digits, of the address and of the byte. Assumes nothing.
+-- `recording::record::record_write` meets its contract: `02` and six digits, of the address and of the byte. Assumes nothing.
 use mathlib.Core.Path.{ap, _∙_}
 use mathlib.Core.Bool.{false}
 use mathlib.Core.List.{_++_}
 use native.Mathlib.Omega.{arith}
 use borrow.Author.Needs.{needs}
 use Rattle.lines.specs.Hex.{hexText}
-use Rattle.lines.specs.Record.{lineOf, cantSay, lineMeans, recordMeans}
-use Rattle.lines.proofs.Written.{write-digits}
-use Rattle.lines.proofs.record.record_write.Statement.{statement}
-use Rattle.lines.proofs.record.record_write.Tie as tie
+use Rattle.recording.specs.Record.{lineOf, cantSay, lineMeans, recordMeans}
+use Rattle.recording.proofs.Written.{write-digits}
+use Rattle.recording.proofs.record.record_write.Statement.{statement}
+use Rattle.recording.proofs.record.record_write.Tie as tie
 
 returns : tie.Need-returns
 unfolding recordMeans lineOf cantSay

@@ -1,0 +1,4 @@
+-- Laws of frames written as lines.
+pub mod Written
+pub mod Accepted
+pub mod Recorded

@@ -1,0 +1,2 @@
+-- The meaning of a frame written as a line.
+pub mod Record
