@@ -5,8 +5,8 @@ use Prim.Native.Nat.{ℕ, zero, suc, _+_, _/_, _%_, _<_, _≤_}
 use native.Mathlib.Nat.{add-zero, add-assoc}
 use native.Mathlib.Numerals.{add-one}
 use native.Mathlib.Omega.{arith}
-use lib.ListN.{length, take, drop, set, length-append, length-drop, length-set, take-append-drop}
-use lib.Seq.{length-take-le, take-set-le, drop-set-lt, drop-cons, getD-set-same, take-at, drop-append-add, drop-drop}
+use lib.ListN.{length, getD, take, drop, set, length-append, length-drop, length-set, take-append-drop}
+use lib.Seq.{take-suc, length-take-le, take-set-le, drop-set-lt, drop-cons, getD-set-same, take-at, drop-append-add, drop-drop}
 use Rattle.lines.specs.Hex.{digitByte, hexText, printed, placed}
 
 -- no text changes nothing
@@ -78,6 +78,15 @@ module _ (out : List ℕ) (at : ℕ) (t : List ℕ) (fits : at ≤ length out) w
 pub placed-one : (out : List ℕ) (k x : ℕ) → k < length out → set out k x ≡ placed out k (x ∷ [])
 placed-one out k x h =
     sym (placed-last out k [] x (simp add-zero h) ∙ placed-none (set out (k + 0) x) k ∙ ap (λ j. set out j x) (add-zero k))
+
+-- the next byte of a text
+pub placed-byte : (out : List ℕ) (at : ℕ) (t : List ℕ) (i : ℕ) → i < length t → at + i < length out
+    → set (placed out at (take i t)) (at + i) (getD t i 0) ≡ placed out at (take (i + 1) t)
+placed-byte out at t i h fits =
+    let n : length (take i t) ≡ i = length-take-le i t (omega arith) in
+    placed-one (placed out at (take i t)) (at + i) (getD t i 0) (rw (length-placed out at (take i t) (omega arith) (omega arith)) (omega arith))
+    ∙ placed-next out at (take i t) (omega arith) (getD t i 0 ∷ []) (at + i) (omega arith)
+    ∙ ap (placed out at) (sym (take-suc t i 0 h) ∙ ap (λ k. take k t) (sym (add-one i)))
 
 -- n digits are n bytes
 pub length-hex : (n v : ℕ) → length (hexText n v) ≡ n

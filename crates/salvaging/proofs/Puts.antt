@@ -9,7 +9,7 @@ use lib.ListN.{length, getD, take, drop, set, length-append, length-drop}
 use lib.Seq.{take-suc, length-take-le}
 use Rattle.lines.specs.Hex.{placed}
 use Rattle.recording.specs.Record.{ended}
-use Rattle.lines.proofs.Placed.{placed-one, placed-next, length-placed}
+use Rattle.lines.proofs.Placed.{placed-one, placed-next, placed-byte, length-placed}
 use Rattle.salvaging.specs.Kept.{accepted, textOf, keptOr, markOf, leftAfter, marks}
 use Rattle.salvaging.specs.Aside.{between}
 
@@ -24,10 +24,7 @@ module _ (out : List ℕ) (at : ℕ) (t : List ℕ) (x k : ℕ) (fits : at + len
 -- the next byte of a line
 pub stored-byte : (out : List ℕ) (at : ℕ) (line : List ℕ) (i : ℕ) → at + length line < length out → i < length line
     → set (placed out at (take i line)) (at + i) (getD line i 0) ≡ placed out at (take (i + 1) line)
-stored-byte out at line i fits h =
-    let n : length (take i line) ≡ i = length-take-le i line (omega arith) in
-    stored out at (take i line) (getD line i 0) (at + i) (omega arith) (omega arith)
-    ∙ ap (placed out at) (sym (take-suc line i 0 h) ∙ ap (λ k. take k line) (sym (add-one i)))
+stored-byte out at line i fits h = placed-byte out at line i h (omega arith)
 
 -- ---- the next line of a text
 

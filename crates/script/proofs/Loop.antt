@@ -36,7 +36,7 @@ onward : List ℕ → Playing → List (List ℕ) → Step
 onward rom p pieces = after (p .text) (inPieces rom (p .world) (p .reader) pieces)
 
 cut : (rom : List ℕ) (w : World) (r : Reader) (front : List ℕ) (pieces : List (List ℕ))
-    → after (readAll rom (opened w r) front .text) (inPieces rom (readAll rom (opened w r) front .world) (readerOf (readAll rom (opened w r) front)) pieces) ≡ inPieces rom w r (front ∷ pieces)
+    → after (readAll rom (opened w r) front .text) (inPieces rom (readAll rom (opened w r) front .world) (readerOf (readAll rom (opened w r) front .line)) pieces) ≡ inPieces rom w r (front ∷ pieces)
 unfolding inPieces
 cut rom w r front pieces = refl
 
@@ -49,9 +49,9 @@ module _ (rom : List ℕ) (w : World) (r : Reader) (size : ℕ) (piece : List �
   unfolding here opened
   front = let e : here .used - 0 ≡ here .used = omega arith in fed-is rom size (opened w r) piece ∙ ap (λ n. readAll rom (opened w r) (take n piece)) e
 
-  rest-read : after (here .text) (inPieces rom (here .world) (readerOf here) (drop (here .used) piece ∷ pieces)) ≡ inPieces rom w r (piece ∷ pieces)
+  rest-read : after (here .text) (inPieces rom (here .world) (readerOf (here .line)) (drop (here .used) piece ∷ pieces)) ≡ inPieces rom w r (piece ∷ pieces)
   rest-read =
-      ap (λ m. after (m .text) (inPieces rom (m .world) (readerOf m) (drop (here .used) piece ∷ pieces))) front
+      ap (λ m. after (m .text) (inPieces rom (m .world) (readerOf (m .line)) (drop (here .used) piece ∷ pieces))) front
       ∙ cut rom w r (take (here .used) piece) (drop (here .used) piece ∷ pieces)
       ∙ recut rom w r (take (here .used) piece ∷ drop (here .used) piece ∷ pieces) (piece ∷ pieces)
       (sym (append-assoc (take (here .used) piece) (drop (here .used) piece) (joined pieces)) ∙ ap (λ t. t ++ joined pieces) (take-append-drop (here .used) piece))
@@ -62,8 +62,8 @@ one-call : (rom : List ℕ) (outs : ℕ → List ℕ) (p : Playing) (piece : Lis
 unfolding onward feedMeans here
 one-call rom outs p piece pieces =
     let m = here rom (p .world) (p .reader) (length (outs (p .calls))) piece pieces in
-    ap (λ t. after (p .text ++ t) (inPieces rom (m .world) (readerOf m) (drop (m .used) piece ∷ pieces))) (written (outs (p .calls)) (m .text))
-    ∙ after-after (p .text) (m .text) (inPieces rom (m .world) (readerOf m) (drop (m .used) piece ∷ pieces))
+    ap (λ t. after (p .text ++ t) (inPieces rom (m .world) (readerOf (m .line)) (drop (m .used) piece ∷ pieces))) (written (outs (p .calls)) (m .text))
+    ∙ after-after (p .text) (m .text) (inPieces rom (m .world) (readerOf (m .line)) (drop (m .used) piece ∷ pieces))
     ∙ ap (after (p .text)) (rest-read rom (p .world) (p .reader) (length (outs (p .calls))) piece pieces)
 
 module _ (rom : List ℕ) (outs : ℕ → List ℕ) (room : (k : ℕ) → 11 ≤ length (outs k)) where

@@ -28,7 +28,7 @@ fed c d l k h i u v w x p q r s t = cc
 pub only-fed : (r s : Fed) (ram ram′ store store′ image image′ out out′ : List ℕ) → fedAs r ram store image out ≡ fedAs s ram′ store′ image′ out′
     → (r ≡ s) × (ram ≡ ram′) × (store ≡ store′) × (image ≡ image′) × (out ≡ out′)
 only-fed r s ram ram′ store store′ image image′ out out′ e = (
-  fed _ _ _ _ _ _ _ _ _ _ (ap (λ x. x .world .state) e) (ap (λ x. x .line) e) (ap (λ x. x .held) e) (ap (λ x. x .used) e) (ap (λ x. x .written) e),
+  fed _ _ _ _ _ _ _ _ _ _ (ap (λ x. x .world .state) e) (ap (λ x. x .reader .line) e) (ap (λ x. x .reader .held) e) (ap (λ x. x .used) e) (ap (λ x. x .written) e),
   ap (λ x. x .world .ram) e,
   ap (λ x. x .world .store) e,
   ap (λ x. x .world .image) e,

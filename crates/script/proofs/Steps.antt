@@ -1,11 +1,12 @@
 -- One step of a session, frame by frame: laws of `rowTaken`, `frameStep` and `stepOf`. Assumes nothing.
-use mathlib.Core.Path.{_≡_, refl, ap, _∙_}
+use mathlib.Core.Path.{_≡_, refl, ap, subst, _∙_}
 use mathlib.Core.List.{List, [], _++_}
-use Prim.Native.Nat.{ℕ, zero, suc, _+_, _-_, _*_}
+use Prim.Native.Nat.{ℕ, zero, suc, _+_, _-_, _*_, _≤_}
 use native.Mathlib.Numerals.{add-one}
 use native.Mathlib.Nat.{zero-add}
 use native.Mathlib.Omega.{arith}
-use lib.ListN.{length, drop, set, replicate}
+use lib.ListN.{length, take, drop, set, replicate}
+use lib.Seq.{take-all}
 use Rattle.controller.specs.declared.Controller.{Controller}
 use Rattle.controller.specs.declared.Refusal.the-variants as refusals
 use Rattle.controller.specs.State.{resetState}
@@ -15,11 +16,13 @@ use Rattle.capture.specs.Calls.{tickMeans}
 use Rattle.lines.specs.declared.line.Frame.{Frame}
 use Rattle.lines.specs.declared.line.Frame.the-variants.{Reset, Read, Write, Tick, Row, Malformed}
 use Rattle.script.specs.declared.session.Obeyed.{Obeyed}
+use Rattle.script.specs.declared.text.Reader.{Reader}
 use Rattle.lines.specs.Line.{numberAt, frameOf}
 use Rattle.lines.specs.Hex.{placed}
 use Rattle.script.specs.Answer.{answerText, textOf}
 use Rattle.script.specs.Session.{World, Step, world, step, rowTaken, rowImage, rowText, frameStep, stepOf}
 use Rattle.script.specs.Said.{Obeys, Printed, Saying, saying}
+use Rattle.script.specs.Pieces.{readerOf}
 
 -- one byte of a row more
 pub row-more : (line : List ℕ) (y n : ℕ) (image : List ℕ) → rowTaken line y (n + 1) image ≡ set (rowTaken line y n image) (128 * y + n) (numberAt line (4 + 2 * n) 2)
@@ -70,6 +73,22 @@ drop-zeros zero zero = refl
 drop-zeros zero (suc n) = let e : 0 ≡ 0 - suc n = omega arith in ap (λ k. replicate {A = ℕ} k 0) e
 drop-zeros (suc m) zero = let e : suc m ≡ suc m - 0 = omega arith in ap (λ k. replicate {A = ℕ} k 0) e
 drop-zeros (suc m) (suc n) = let e : m - n ≡ suc m - suc n = omega arith in drop-zeros m n ∙ ap (λ k. replicate {A = ℕ} k 0) e
+
+-- bytes put in front of zeros are what a reader holds
+pub reader-made : (line : List ℕ) (held : ℕ) (x : List ℕ) → length line ≤ 261 → held ≡ length line → x ≡ placed (replicate 261 0) 0 (take 261 line)
+    → _≡_ {A = Reader} (record { line = x; held = held }) (readerOf line)
+unfolding placed readerOf
+reader-made line held x h e p =
+    let q : x ≡ line ++ replicate (261 - length line) 0 =
+    p
+    ∙ ap (λ t. t ++ drop (0 + length t) (replicate 261 0)) (take-all 261 line h)
+    ∙ ap (λ k. line ++ drop k (replicate 261 0)) (zero-add (length line))
+    ∙ ap (λ r. line ++ r) (drop-zeros 261 (length line)) in
+    (λ i. record { line = q i; held = e i })
+
+-- the same step
+pub printed-as : {s t : Step} {w : World} {out : List ℕ} {at : ℕ} {out′ : List ℕ} {end : ℕ} → s ≡ t → Printed s w out at out′ end → Printed t w out at out′ end
+printed-as {s} {t} {w} {out} {at} {out′} {end} e p = subst (λ (x : Step). Printed x w out at out′ end) e p
 
 -- a text put into eleven bytes that are 0
 pub saying-is : (s : Step) (w : World) (out : List ℕ) (n : ℕ) → Printed s w (replicate 11 0) 0 out n → _≡_ {A = Saying} (record { world = w; text = out; length = n }) (saying s)

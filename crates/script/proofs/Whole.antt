@@ -7,9 +7,9 @@ use native.Mathlib.Nat.{add-zero, add-assoc}
 use native.Mathlib.Numerals.{add-one}
 use native.Mathlib.Omega.{arith}
 use lib.Dec.{eqb, ltb}
-use lib.ListN.{length, take, set, length-append, length-set, length-replicate}
-use lib.Seq.{take-nil, take-all, take-append-le, take-suc-set, length-take-le}
-use borrow.Author.Tests.{eq-eqb, ne-eqb, lt-ltb, le-ltb}
+use lib.ListN.{length, take, replicate, length-take}
+use lib.Seq.{take-nil, take-all, take-at, take-append-le, length-take-le}
+use borrow.Author.Tests.{eq-eqb, ne-eqb, le-ltb}
 use Rattle.laws.specs.Pick.{pick}
 use Rattle.laws.proofs.Order.{split}
 use Rattle.controller.specs.declared.Refusal.the-variants as refusals
@@ -20,10 +20,10 @@ use Rattle.lines.specs.Line.{frameOf}
 use Rattle.script.specs.Answer.{answerText}
 use Rattle.script.specs.Session.{World, Step, step, refused, frameStep, stepOf}
 use Rattle.script.specs.Text.{begins, linesOf, after, played, sessionOf}
-use Rattle.script.specs.Pieces.{Reading, lineEnded, lineKept, countKept, byteKept, byteRead, readAll, noRoom, fed, newReader, opened, lastLine, finishMeans, readerOf, inPieces, joined}
+use Rattle.script.specs.Pieces.{Reading, lineEnded, lineKept, byteKept, byteRead, readAll, noRoom, fed, readerOf, newReader, heldBy, opened, lastLine, finishMeans, inPieces, joined}
 use Rattle.lines.proofs.Digits.{and-false}
 use Rattle.lines.proofs.Frames.{too-long}
-use Rattle.script.proofs.Feeds.{reading}
+use Rattle.script.proofs.Feeds.{reading, kept-more, few-kept}
 
 cases {ℓ} : {X : Type ℓ} (t : Bool) → (t ≡ true → X) → (t ≡ false → X) → X
 cases true f g = f refl
@@ -48,6 +48,10 @@ enough rom w line =
     split 261 (length line)
     (λ h. bad-line rom w (take 261 line) (too-long (take 261 line) (rw (length-take-le 261 line (omega arith)) (omega arith))) ∙ sym (bad-line rom w line (too-long line (omega arith))))
     (λ h. ap (stepOf rom w) (take-all 261 line h))
+
+-- so a line of which nothing is held may be read where it stands
+pub as-it-stands : (rom : List ℕ) (w : World) (line rest : List ℕ) (held : ℕ) → held ≡ 0 → stepOf rom w rest ≡ stepOf rom w (take 261 (take held line ++ rest))
+as-it-stands rom w line rest held e = sym (ap (λ h. stepOf rom w (take 261 (take h line ++ rest))) e ∙ enough rom w rest)
 
 -- ---- lines, with the bytes of the first already read
 
@@ -88,38 +92,21 @@ lines-from p (b ∷ rest) =
 
 -- ---- what the reader holds of a line
 
-record Holds (m : Reading) (p : List ℕ) : Type 0 where
-  pub same : take (m .held) (m .line) ≡ take 261 p
-  pub count : m .held ≡ min (length p) 261
-  pub long : length (m .line) ≡ 261
+abbrev Holds : Reading → List ℕ → Type 0
+Holds m p = m .line ≡ take 261 p
 
-holds-none : (rom : List ℕ) (m : Reading) → length (m .line) ≡ 261 → Holds (lineEnded rom m) []
+holds-none : (rom : List ℕ) (m : Reading) → Holds (lineEnded rom m) []
 unfolding lineEnded
-holds-none rom m l = record { same = refl; count = omega arith; long = l }
+holds-none rom m = refl
 
 holds-more : (m : Reading) (p : List ℕ) (b : ℕ) → Holds m p → Holds (byteKept m b) (p ++ (b ∷ []))
-unfolding byteKept lineKept countKept
-holds-more m p b h =
-    split (length p) 261
-    (λ l. let n : m .held ≡ length p = omega (arith, h .count) in
-    let t : ltb (m .held) 261 ≡ true = lt-ltb (m .held) 261 (omega arith) in
-    record {
-      same = simp t (ap (λ k. take k (set (m .line) (m .held) b)) (add-one (m .held)) ∙ take-suc-set (m .line) (m .held) b (omega (arith, h .long)) ∙ ap (λ x. x ++ (b ∷ [])) (h .same ∙ take-all 261 p (omega arith)) ∙ sym (take-all 261 (p ++ (b ∷ [])) (omega (arith, length-append p (b ∷ [])))));
-      count = simp t (omega (arith, length-append p (b ∷ [])));
-      long = simp t (length-set (m .line) (m .held) b ∙ h .long);
-    })
-    (λ l. let n : m .held ≡ 261 = omega (arith, h .count) in
-    let t : ltb (m .held) 261 ≡ false = le-ltb (m .held) 261 (omega arith) in
-    record {
-      same = simp t (h .same ∙ sym (take-append-le 261 p (b ∷ []) l));
-      count = simp t (omega (arith, length-append p (b ∷ [])));
-      long = simp t (h .long);
-    })
+unfolding byteKept
+holds-more m p b h = ap (λ x. lineKept x b) h ∙ kept-more p b
 
 -- ---- reading all of a text, and its end
 
 pub closing : List ℕ → Reading → Step
-closing rom m = after (m .text) (lastLine rom (m .world) (m .line) (m .held))
+closing rom m = after (m .text) (lastLine rom (m .world) (m .line))
 
 byte-line : (rom : List ℕ) (m : Reading) (b : ℕ) → eqb b 0x0A ≡ true → byteRead rom m b ≡ lineEnded rom m
 unfolding byteRead
@@ -129,21 +116,21 @@ byte-kept : (rom : List ℕ) (m : Reading) (b : ℕ) → eqb b 0x0A ≡ false �
 unfolding byteRead
 byte-kept rom m b e = simp e
 
-last-none : (rom : List ℕ) (w : World) (line : List ℕ) (held : ℕ) → held ≡ 0 → lastLine rom w line held ≡ step w []
+pub last-none : (rom : List ℕ) (w : World) (line : List ℕ) → length line ≡ 0 → lastLine rom w line ≡ step w []
 unfolding lastLine
-last-none rom w line held e = simp (eq-eqb held 0 e)
+last-none rom w line e = simp (eq-eqb (length line) 0 e)
 
-last-some : (rom : List ℕ) (w : World) (line : List ℕ) (held : ℕ) → (held ≡ 0 → ⊥) → lastLine rom w line held ≡ stepOf rom w (take held line)
+pub last-some : (rom : List ℕ) (w : World) (line : List ℕ) → (length line ≡ 0 → ⊥) → lastLine rom w line ≡ stepOf rom w line
 unfolding lastLine
-last-some rom w line held e = simp (ne-eqb held 0 e)
+last-some rom w line e = simp (ne-eqb (length line) 0 e)
 
 -- the last line
-last-is : (rom : List ℕ) (m : Reading) (p : List ℕ) → Holds m p → lastLine rom (m .world) (m .line) (m .held) ≡ played rom (m .world) (lastOf p)
+last-is : (rom : List ℕ) (m : Reading) (p : List ℕ) → Holds m p → lastLine rom (m .world) (m .line) ≡ played rom (m .world) (lastOf p)
 unfolding lastOf played
-last-is rom m [] h = last-none rom (m .world) (m .line) (m .held) (h .count ∙ omega arith)
+last-is rom m [] h = last-none rom (m .world) (m .line) (ap length h)
 last-is rom m (b ∷ p) h =
-    last-some rom (m .world) (m .line) (m .held) (λ e. omega (arith, h .count))
-    ∙ ap (stepOf rom (m .world)) (h .same)
+    last-some rom (m .world) (m .line) (λ e. omega (arith, ap length h))
+    ∙ ap (stepOf rom (m .world)) h
     ∙ enough rom (m .world) (b ∷ p)
     ∙ ap (λ t. step (stepOf rom (m .world) (b ∷ p) .world) t) (sym (append-nil (stepOf rom (m .world) (b ∷ p) .text)))
 
@@ -152,7 +139,7 @@ ended : (rom : List ℕ) (m : Reading) (p : List ℕ) (lines : List (List ℕ)) 
     → after (lineEnded rom m .text) (played rom (lineEnded rom m .world) lines) ≡ after (m .text) (played rom (m .world) (p ∷ lines))
 unfolding lineEnded played
 ended rom m p lines h =
-    ap (λ s. after (m .text ++ s .text) (played rom (s .world) lines)) (ap (stepOf rom (m .world)) (h .same) ∙ enough rom (m .world) p)
+    ap (λ s. after (m .text ++ s .text) (played rom (s .world) lines)) (ap (stepOf rom (m .world)) h ∙ enough rom (m .world) p)
     ∙ ap (λ t. step (played rom (stepOf rom (m .world) p .world) lines .world) t) (append-assoc (m .text) (stepOf rom (m .world) p .text) (played rom (stepOf rom (m .world) p .world) lines .text))
 
 kept : (rom : List ℕ) (m : Reading) (b : ℕ) (lines : List (List ℕ))
@@ -169,7 +156,7 @@ reads rom (b ∷ rest) m p h =
     (λ e.
     simp e
     (ap (λ x. closing rom (readAll rom x rest)) (byte-line rom m b e)
-    ∙ reads rom rest (lineEnded rom m) [] (holds-none rom m (h .long))
+    ∙ reads rom rest (lineEnded rom m) [] (holds-none rom m)
     ∙ ended rom m p (linesFrom [] rest) h))
     (λ e. simp e (ap (λ x. closing rom (readAll rom x rest)) (byte-kept rom m b e) ∙ reads rom rest (byteKept m b) (p ++ (b ∷ [])) (holds-more m p b h) ∙ kept rom m b (linesFrom (p ++ (b ∷ [])) rest)))
 
@@ -182,16 +169,16 @@ read-joined rom m (b ∷ p) q = read-joined rom (byteRead rom m b) p q
 
 -- with a text printed and bytes read before
 shifted : List ℕ → ℕ → Reading → Reading
-shifted t u m = reading (m .world) (m .line) (m .held) (t ++ m .text) (u + m .used)
+shifted t u m = reading (m .world) (m .line) (t ++ m .text) (u + m .used)
 
 shifted-byte : (rom t : List ℕ) (u : ℕ) (m : Reading) (b : ℕ) → byteRead rom (shifted t u m) b ≡ shifted t u (byteRead rom m b)
 unfolding shifted byteRead lineEnded byteKept
 shifted-byte rom t u m b =
     cases (eqb b 0x0A)
     (λ e. simp e
-    (ap (λ x. reading (stepOf rom (m .world) (take (m .held) (m .line)) .world) (m .line) 0 x (u + m .used + 1)) (append-assoc t (m .text) (stepOf rom (m .world) (take (m .held) (m .line)) .text))
-    ∙ ap (λ n. reading (stepOf rom (m .world) (take (m .held) (m .line)) .world) (m .line) 0 (t ++ (m .text ++ stepOf rom (m .world) (take (m .held) (m .line)) .text)) n) (add-assoc u (m .used) 1)))
-    (λ e. simp e (ap (λ n. reading (m .world) (lineKept (m .line) (m .held) b) (countKept (m .held)) (t ++ m .text) n) (add-assoc u (m .used) 1)))
+    (ap (λ x. reading (stepOf rom (m .world) (m .line) .world) [] x (u + m .used + 1)) (append-assoc t (m .text) (stepOf rom (m .world) (m .line) .text))
+    ∙ ap (λ n. reading (stepOf rom (m .world) (m .line) .world) [] (t ++ (m .text ++ stepOf rom (m .world) (m .line) .text)) n) (add-assoc u (m .used) 1)))
+    (λ e. simp e (ap (λ n. reading (m .world) (lineKept (m .line) b) (t ++ m .text) n) (add-assoc u (m .used) 1)))
 
 shifted-all : (rom t : List ℕ) (u : ℕ) (m : Reading) (p : List ℕ) → readAll rom (shifted t u m) p ≡ shifted t u (readAll rom m p)
 unfolding readAll
@@ -201,38 +188,46 @@ shifted-all rom t u m (b ∷ p) = ap (λ x. readAll rom x p) (shifted-byte rom t
 closing-shifted : (rom t : List ℕ) (u : ℕ) (m : Reading) → closing rom (shifted t u m) ≡ after t (closing rom m)
 unfolding closing shifted
 closing-shifted rom t u m =
-    ap (λ x. step (lastLine rom (m .world) (m .line) (m .held) .world) x) (append-assoc t (m .text) (lastLine rom (m .world) (m .line) (m .held) .text))
+    ap (λ x. step (lastLine rom (m .world) (m .line) .world) x) (append-assoc t (m .text) (lastLine rom (m .world) (m .line) .text))
 
 -- no more than 261 bytes are held
-few-byte : (rom : List ℕ) (m : Reading) (b : ℕ) → m .held ≤ 261 → byteRead rom m b .held ≤ 261
-unfolding byteRead lineEnded byteKept countKept
-few-byte rom m b h =
-    cases (eqb b 0x0A) (λ e. simp e (omega arith))
-    (λ e. simp e (split (m .held) 261 (λ l. simp (lt-ltb (m .held) 261 l) (omega arith)) (λ l. simp (le-ltb (m .held) 261 l) h)))
+few-byte : (rom : List ℕ) (m : Reading) (b : ℕ) → length (m .line) ≤ 261 → length (byteRead rom m b .line) ≤ 261
+unfolding byteRead lineEnded byteKept
+few-byte rom m b h = cases (eqb b 0x0A) (λ e. simp e (omega arith)) (λ e. simp e (few-kept (m .line) b h))
 
-few-all : (rom : List ℕ) (m : Reading) (p : List ℕ) → m .held ≤ 261 → readAll rom m p .held ≤ 261
+few-all : (rom : List ℕ) (m : Reading) (p : List ℕ) → length (m .line) ≤ 261 → length (readAll rom m p .line) ≤ 261
 unfolding readAll
 few-all rom m [] h = h
 few-all rom m (b ∷ p) h = few-all rom (byteRead rom m b) p (few-byte rom m b h)
 
+few-opened : (w : World) (r : Reader) → length (opened w r .line) ≤ 261
+unfolding opened heldBy
+few-opened w r = omega (arith, length-take (min (r .held) 261) (r .line))
+
+-- a reader holds what it was made to hold
+held-back : (line : List ℕ) → length line ≤ 261 → heldBy (readerOf line) ≡ line
+unfolding heldBy readerOf
+held-back line h =
+    let n : min (length line) 261 ≡ length line = omega arith in
+    ap (λ k. take k (line ++ replicate (261 - length line) 0)) n ∙ take-at line (replicate (261 - length line) 0) (length line) refl
+
 -- a piece ends where the next begins
-reopened : (m : Reading) → m .held ≤ 261 → shifted (m .text) (m .used) (opened (m .world) (readerOf m)) ≡ m
+reopened : (m : Reading) → length (m .line) ≤ 261 → shifted (m .text) (m .used) (opened (m .world) (readerOf (m .line))) ≡ m
 unfolding shifted opened
 reopened m h =
-    let n : min (m .held) 261 ≡ m .held = omega arith in
-    ap (λ k. reading (m .world) (m .line) k (m .text ++ []) (m .used + 0)) n
-    ∙ ap (λ t. reading (m .world) (m .line) (m .held) t (m .used + 0)) (append-nil (m .text))
-    ∙ ap (λ u. reading (m .world) (m .line) (m .held) (m .text) u) (add-zero (m .used))
+    ap (λ l. reading (m .world) l (m .text ++ []) (m .used + 0)) (held-back (m .line) h)
+    ∙ ap (λ t. reading (m .world) (m .line) t (m .used + 0)) (append-nil (m .text))
+    ∙ ap (λ u. reading (m .world) (m .line) (m .text) u) (add-zero (m .used))
 
 -- what is read in pieces is read at one go
 pub pieces-read : (rom : List ℕ) (w : World) (r : Reader) (pieces : List (List ℕ)) → inPieces rom w r pieces ≡ closing rom (readAll rom (opened w r) (joined pieces))
 unfolding inPieces finishMeans closing readAll opened
 pieces-read rom w r [] = refl
 pieces-read rom w r (p ∷ pieces) =
-    ap (after (m .text)) (pieces-read rom (m .world) (readerOf m) pieces)
-    ∙ sym (closing-shifted rom (m .text) (m .used) (readAll rom (opened (m .world) (readerOf m)) (joined pieces)))
-    ∙ ap (closing rom) (sym (shifted-all rom (m .text) (m .used) (opened (m .world) (readerOf m)) (joined pieces)))
-    ∙ ap (λ x. closing rom (readAll rom x (joined pieces))) (reopened m (few-all rom (opened w r) p (omega arith)))
+    ap (after (m .text)) (pieces-read rom (m .world) (readerOf (m .line)) pieces)
+    ∙ sym (closing-shifted rom (m .text) (m .used) (readAll rom (opened (m .world) (readerOf (m .line))) (joined pieces)))
+    ∙ ap (closing rom) (sym (shifted-all rom (m .text) (m .used) (opened (m .world) (readerOf (m .line))) (joined pieces)))
+    ∙ ap (λ x. closing rom (readAll rom x (joined pieces))) (reopened m (few-all rom (opened w r) p (few-opened w r)))
     ∙ ap (closing rom) (sym (read-joined rom (opened w r) p (joined pieces)))
   where
     m : Reading
@@ -240,10 +235,10 @@ pieces-read rom w r (p ∷ pieces) =
 
 -- a text in pieces, cut anywhere, is the whole text
 pub whole : (rom : List ℕ) (w : World) (pieces : List (List ℕ)) → inPieces rom w newReader pieces ≡ sessionOf rom w (joined pieces)
-unfolding sessionOf opened newReader
+unfolding sessionOf opened heldBy newReader
 whole rom w pieces =
     pieces-read rom w newReader pieces
-    ∙ reads rom (joined pieces) (opened w newReader) [] (record { same = refl; count = omega arith; long = length-replicate {A = ℕ} 261 0 })
+    ∙ reads rom (joined pieces) (opened w newReader) [] refl
     ∙ ap (played rom w) (lines-from [] (joined pieces) ∙ prefixed-none (linesOf (joined pieces)))
 
 -- ---- a buffer for the answers that fills

@@ -23,7 +23,7 @@ call rom outs p piece = feedMeans rom (p .world) (p .reader) piece (outs (p .cal
 
 -- after a call what it has written into the buffer is printed
 abbrev pub called : Playing → Feeding → Playing
-called p f = record { world = f .world; reader = record { line = f .line; held = f .held }; text = p .text ++ take (f .written) (f .out); calls = p .calls + 1 }
+called p f = record { world = f .world; reader = f .reader; text = p .text ++ take (f .written) (f .out); calls = p .calls + 1 }
 
 -- what a call has left of a piece is lent to the next one, until nothing is left: a piece takes at most as many calls as it has bytes
 unfoldable pub pieceRead : ℕ → List ℕ → (ℕ → List ℕ) → Playing → List ℕ → Playing

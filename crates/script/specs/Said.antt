@@ -1,8 +1,8 @@
 -- What the functions promise of a step, in terms of its meaning. Assumes nothing.
 use mathlib.Core.Path.{_≡_}
 use mathlib.Core.List.{List, _++_}
-use Prim.Native.Nat.{ℕ, _+_, _-_, _≤_}
-use lib.ListN.{length, replicate}
+use Prim.Native.Nat.{ℕ, _+_, _-_, _<_, _≤_}
+use lib.ListN.{length, getD, replicate}
 use Rattle.controller.specs.Outcome.{Outcome}
 use Rattle.script.specs.declared.session.Obeyed.{Obeyed}
 use Rattle.script.specs.declared.session.Stepped.{Stepped}
@@ -24,6 +24,13 @@ pub record Printed (s : Step) (w : World) (out : List ℕ) (at : ℕ) (out′ : 
   pub text : out′ ≡ placed out at (s .text)
   pub end : at′ ≡ at + length (s .text)
   pub most : at′ ≤ at + 11
+
+-- the line that begins at a place of a piece ends at an LF, the first from there on, or at the piece's end
+pub record Ends (piece : List ℕ) (from end : ℕ) : Type 0 where
+  pub after : from ≤ end
+  pub inside : end ≤ length piece
+  pub none : (k : ℕ) → from ≤ k → k < end → getD piece k 0 ≡ 0x0A → ⊥
+  pub found : end < length piece → getD piece end 0 ≡ 0x0A
 
 -- a step with its text in eleven bytes, and how many of them it takes
 pub record Saying : Type 0 where

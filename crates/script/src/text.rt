@@ -1,15 +1,20 @@
 // A text to its answers, read in pieces that may be cut anywhere.
 use super::answer::ANSWER;
+use super::session::LineDone;
 use super::session::Stepped;
 use super::session::line_done;
 use super::session::step;
 use controller::Controller;
 ghost use mathlib.Core.Path.{_≡_};
-ghost use Prim.Native.Nat.{_≤_, min};
-ghost use lib.ListN.{length};
-ghost use Rattle.script.specs.Session.{world};
-ghost use Rattle.script.specs.Said.{said, saying};
-ghost use Rattle.script.specs.Pieces.{lineKept, countKept, newReader, fedAs, feedMeans, finishMeans};
+ghost use mathlib.Core.Bool.{_&&_};
+ghost use mathlib.Core.List.{_++_};
+ghost use Prim.Native.Nat.{_+_, _-_, _≤_, min};
+ghost use lib.Dec.{leb, ltb};
+ghost use lib.ListN.{length, take};
+ghost use Rattle.lines.specs.Hex.{placed};
+ghost use Rattle.script.specs.Session.{world, stepOf};
+ghost use Rattle.script.specs.Said.{Ends, Printed, said, saying};
+ghost use Rattle.script.specs.Pieces.{readerOf, newReader, fedAs, feedMeans, finishMeans};
 
 // The bytes held of a line: one more than the longest line has.
 pub const HELD: usize = 261;
@@ -40,26 +45,87 @@ impl Reader {
     }
 }
 
-// How many bytes can be held.
-fn most(held: usize) -> usize
-    ensures { λ r. ⌜ (r ≡ min held 261) × (r ≤ 261) ⌝ }
+// A number, but no more than another.
+fn at_most(n: usize, most: usize) -> usize
+    ensures { λ r. ⌜ (r ≡ min n most) × (r ≤ most) × (r ≤ n) ⌝ }
 {
-    if held < HELD {
-        return held;
+    if n < most {
+        return n;
     }
-    HELD
+    most
 }
 
-// Holds a byte of a line.
-fn hold(line: &mut [u8; 261], held: usize, b: u8) -> usize
-    requires { ⌜ held ≤ 261 ⌝ }
-    ensures { λ r. ⌜ (now (line .exit) ≡ lineKept (now (line .entry)) held b) × (r ≡ countKept held) × (r ≤ 261) ⌝ }
+// Holds bytes of a line after those that are held, as far as 261, and returns how many are held then.
+fn hold(line: &mut [u8], held: usize, bytes: &[u8]) -> usize
+    requires { ⌜ (length (now line) ≡ 261) × (held ≤ 261) ⌝ }
+    ensures { λ r. ⌜ (now (line .exit) ≡ placed (now (line .entry)) held (take (261 - held) (now (bytes .entry)))) × (r ≡ held + length (take (261 - held) (now (bytes .entry)))) × (r ≤ 261) ⌝ }
 {
-    if held < HELD {
-        line[held] = b;
-        return held + 1;
+    let n = at_most(bytes.len(), HELD - held); // the others are skipped
+    let mut i = 0;
+    while i < n {
+        line[held + i] = bytes[i];
+        i += 1;
     }
-    held // the others are skipped
+    held + n
+}
+
+// The reader that holds so many bytes of a line.
+fn holding(line: [u8; 261], held: usize) -> Reader
+    requires { ⌜ held ≤ 261 ⌝ }
+    ensures { λ r. ⌜ r ≡ readerOf (take held line) ⌝ }
+{
+    let mut kept = [0u8; 261];
+    hold(&mut kept, 0, &line[..held]);
+    Reader { line: kept, held }
+}
+
+// Where the line that begins at a place of a piece ends: at its LF, or at the piece's end.
+fn line_end(piece: &[u8], from: usize) -> usize
+    requires { ⌜ from ≤ length (now piece) ⌝ }
+    ensures { λ r. ⌜ Ends (now (piece .entry)) from r ⌝ }
+{
+    let mut i = from;
+    while i < piece.len() {
+        if piece[i] == 0x0A {
+            return i;
+        }
+        i += 1;
+    }
+    i
+}
+
+// Carries out a line of which the first bytes are held and the others stand in the piece, and puts its answer into a
+// buffer. Where none is held the line is read where it stands.
+fn end_line(
+    state: Controller,
+    rom: &[u8],
+    ram: &mut [u8],
+    store: &mut [u8],
+    image: &mut [u8],
+    line: &mut [u8],
+    held: usize,
+    rest: &[u8],
+    out: &mut [u8],
+    at: usize,
+) -> LineDone
+    requires { ⌜ (length (now line) ≡ 261) × (held ≤ 261) × (at + 11 ≤ length (now out)) ⌝ }
+    ensures { λ r. ⌜ Printed (stepOf (now (rom .entry)) (world state (now (ram .entry)) (now (store .entry)) (now (image .entry))) (take 261 (take held (now (line .entry)) ++ now (rest .entry)))) (world (r .state) (now (ram .exit)) (now (store .exit)) (now (image .exit))) (now (out .entry)) at (now (out .exit)) (r .end) ⌝ }
+{
+    if held == 0 {
+        return line_done(state, rom, ram, store, image, rest, out, at);
+    }
+    let n = hold(line, held, rest);
+    line_done(state, rom, ram, store, image, &line[..n], out, at)
+}
+
+// Whether a line ends in a piece and there is room for its answer.
+fn answered(end: usize, piece: &[u8], room: usize) -> bool
+    ensures { λ r. ⌜ r ≡ (ltb end (length (now (piece .entry))) && leb 11 room) ⌝ }
+{
+    if end < piece.len() {
+        return ANSWER <= room;
+    }
+    false
 }
 
 // Reads a piece, and writes the answers of the lines that end in it, one after the other: up to an LF for whose
@@ -77,37 +143,36 @@ pub fn feed(
     ensures { λ r. ⌜ (fedAs r (now (ram .exit)) (now (store .exit)) (now (image .exit)) (now (out .exit)) ≡ feedMeans (now (rom .entry)) (world state (now (ram .entry)) (now (store .entry)) (now (image .entry))) reader (now (piece .entry)) (now (out .entry))) × (r .used ≤ length (now (piece .entry))) × (r .written ≤ length (now (out .entry))) ⌝ }
 {
     let mut line = reader.line;
-    let mut held = most(reader.held);
+    let mut held = at_most(reader.held, HELD);
     let mut now = state;
     let mut at = 0;
     let mut i = 0;
-    while i < piece.len() {
-        let b = piece[i];
-        if b == 0x0A {
-            if out.len() - at < ANSWER {
-                let stopped = Reader { line, held };
-                return Fed {
-                    reader: stopped,
-                    state: now,
-                    used: i,
-                    written: at,
-                };
-            }
-            let done = line_done(now, rom, ram, store, image, &line[..held], out, at);
-            now = done.state;
-            at = done.end;
-            held = 0;
-            i += 1;
-        } else {
-            held = hold(&mut line, held, b);
-            i += 1;
-        }
+    let mut end = line_end(piece, 0);
+    while answered(end, piece, out.len() - at) {
+        let done = end_line(
+            now,
+            rom,
+            ram,
+            store,
+            image,
+            &mut line,
+            held,
+            &piece[i..end],
+            out,
+            at,
+        );
+        now = done.state;
+        at = done.end;
+        held = 0;
+        i = end + 1;
+        end = line_end(piece, i);
     }
-    let rest = Reader { line, held };
+    held = hold(&mut line, held, &piece[i..end]);
+    let rest = holding(line, held);
     Fed {
         reader: rest,
         state: now,
-        used: i,
+        used: end,
         written: at,
     }
 }
@@ -124,8 +189,8 @@ pub fn finish(
     ensures { λ r. ⌜ (said r (now (ram .exit)) (now (store .exit)) (now (image .exit)) ≡ saying (finishMeans (now (rom .entry)) (world state (now (ram .entry)) (now (store .entry)) (now (image .entry))) reader)) × (r .length ≤ 11) ⌝ }
 {
     let line = reader.line;
-    let held = most(reader.held);
-    if held == 0 {
+    let held = at_most(reader.held, HELD);
+    if held == 0 { // no line has begun
         return Stepped {
             state,
             text: [0; 11],

@@ -1,124 +1,129 @@
 -- `script::text::feed` meets its contract: the invariant is `Going`: what is left from here is the whole from the start. Assumes nothing.
-use mathlib.Core.Path.{_≡_, refl, sym, _∙_}
+use mathlib.Core.Path.{_≡_, refl, sym, ap, _∙_}
 use mathlib.Core.List.{[]}
-use Prim.Native.Nat.{_-_}
+use Prim.Native.Nat.{_-_, _≤_}
 use native.Mathlib.Omega.{arith}
 use lib.Seq.{length-take-le}
-use lib.ListN.{length}
+use lib.ListN.{length, take}
 use borrow.Author.Needs.{needs}
 use Rattle.script.specs.Session.{world}
-use Rattle.script.proofs.Feeds.{Going, reading, going-start, going-line, going-byte, going-stops, going-ends, begun}
+use Rattle.script.specs.Said.{Ends}
+use Rattle.script.specs.Pieces.{readerOf}
+use Rattle.script.proofs.Feeds.{Going, reading, leaving, going-start, going-on, going-line, going-done, goes-on, few-held, held-on, begun}
 use Rattle.script.proofs.text.feed.Statement.{statement}
 use Rattle.script.proofs.text.feed.Tie as tie
 
 abbrev Inv-loop : tie.InvT-loop
-Inv-loop rom ram₀ store₀ image₀ piece out₀ line₀ held₀ now₀ at₀ i₀ ram store image out line held now at i =
-    (length ram ≡ length ram₀) × (length store ≡ length store₀) × (length image ≡ length image₀)
-    × Going rom (reading (world now₀ ram₀ store₀ image₀) line₀ held₀ [] 0) out₀ piece (world now ram store image) line held out at i
+Inv-loop rom ram₀ store₀ image₀ piece out₀ line₀ held₀ now₀ at₀ i₀ end₀ ram store image out line held now at i end =
+    (length ram ≡ length ram₀) × (length store ≡ length store₀) × (length image ≡ length image₀) × (length line ≡ 261) × (held ≤ 261) × Ends piece i end
+    × Going rom (reading (world now₀ ram₀ store₀ image₀) (take held₀ line₀) [] 0) out₀ piece (world now ram store image) (take held line) out at i
 
 abbrev μ-loop : tie.MeasureT-loop
-μ-loop rom ram₀ store₀ image₀ piece out₀ line₀ held₀ now₀ at₀ i₀ ram store image out line held now at i = length piece - i
+μ-loop rom ram₀ store₀ image₀ piece out₀ line₀ held₀ now₀ at₀ i₀ end₀ ram store image out line held now at i end = length piece - end
 
 -- the reader's line has 261 bytes
 long : (s : tie.Start Inv-loop μ-loop) → length (s .args .reader .line) ≡ 261
 long s = search needs
 
-most-requires : tie.Need-most-requires Inv-loop μ-loop
-most-requires c κs = search needs
+at-most-requires : tie.Need-at-most-requires Inv-loop μ-loop
+at-most-requires c κs = search needs
+
+line-end-requires : tie.Need-line-end-requires Inv-loop μ-loop
+line-end-requires c κs = omega arith
 
 loop-holds : tie.Need-loop-holds Inv-loop μ-loop
 loop-holds c =
-    let a = c .before .before .before .before .before .before .before .before in
-    (refl, refl, refl, going-start _ _ _ _ _ _ (c .most .ensures .1) (long a))
+    let a = c .before .before .before .before .before .before .before .before .before in
+    (refl, refl, refl, long a, c .before .at-most .ensures .1, c .line-end .ensures, going-start _ _ _ _ _ (few-held _ _ (c .before .at-most .ensures .1)))
 
-shared-slice-read-b : tie.Need-shared-slice-read-b Inv-loop μ-loop
-shared-slice-read-b c = omega arith
+sub-answered : tie.Need-sub-answered Inv-loop μ-loop
+sub-answered c = c .loop .inv .6 .room
 
-sub-if2 : tie.Need-sub-if2 Inv-loop μ-loop
-sub-if2 c = omega arith
+answered-requires : tie.Need-answered-requires Inv-loop μ-loop
+answered-requires c κs = search needs
 
-same-length : tie.Need-same-length Inv-loop μ-loop
-same-length c = c .before .before .before .before .loop .inv .0
+slice-aggregate-end-line : tie.Need-slice-aggregate-end-line Inv-loop μ-loop
+slice-aggregate-end-line c = sym (c .before .before .before .before .before .before .loop .inv .3)
 
-same-length-2 : tie.Need-same-length-2 Inv-loop μ-loop
-same-length-2 c = c .before .before .before .before .loop .inv .1
+sub-end-line : tie.Need-sub-end-line Inv-loop μ-loop
+sub-end-line c = c .before .before .before .before .before .before .loop .inv .5 .after
 
-same-length-3 : tie.Need-same-length-3 Inv-loop μ-loop
-same-length-3 c = c .before .before .before .before .loop .inv .2
+part-end-line-start : tie.Need-part-end-line-start Inv-loop μ-loop
+part-end-line-start c = c .before .before .before .before .before .before .loop .inv .5 .after
 
-same-length-4 : tie.Need-same-length-4 Inv-loop μ-loop
-same-length-4 c = c .before .before .before .before .loop .inv .3 .same
+part-end-line-end : tie.Need-part-end-line-end Inv-loop μ-loop
+part-end-line-end c = c .before .before .before .before .before .before .loop .inv .5 .inside
 
-returns : tie.Need-returns Inv-loop μ-loop
-returns c =
-    let a = c .before .before .before .before .before .before .before .before .before .before .before .before .before .args in
-    let l = c .before .before .before .before .loop in (
-      going-stops _ _ _ _ _ _ _ _ _ _ (l .inv .3) (c .before .before .before .loop-test .taken) (c .before .if1 .taken) (omega (arith, l .inv .3))
-          ∙ begun (a .rom .now) _ (a .reader) (a .piece .now) (a .out .now) _ (c .before .before .before .before .before .most .ensures .0),
-      l .inv .3 .inside,
-      omega (arith, l .inv .3),
-    )
-
-array-share-prefix-line : tie.Need-array-share-prefix-line Inv-loop μ-loop
-array-share-prefix-line c = omega arith
-
-slice-aggregate-line-done : tie.Need-slice-aggregate-line-done Inv-loop μ-loop
-slice-aggregate-line-done c = sym (length-take-le _ _ (omega arith))
-
-line-done-requires : tie.Need-line-done-requires Inv-loop μ-loop
-line-done-requires c κs = omega arith
+end-line-requires : tie.Need-end-line-requires Inv-loop μ-loop
+end-line-requires c κs =
+    let l = c .before .before .before .before .before .before .before .before .loop in
+    let t = goes-on (c .before .before .before .before .before .before .before .before .loop .end) (length (c .before .before .before .before .before .before .before .before .before .before .before .before .before .before .before .before .before .before .args .piece .now)) (length (c .before .before .before .before .before .before .before .before .loop .out) - (c .before .before .before .before .before .before .before .before .loop .at)) (c .before .before .before .before .before .before .before .answered .result) (c .before .before .before .before .before .before .before .answered .ensures) (c .before .before .before .before .before .before .if1 .taken) in
+    (l .inv .3, l .inv .4, omega (arith, t .1))
 
 add-i : tie.Need-add-i Inv-loop μ-loop
-add-i c = omega (arith, c .before .before .before .before .before .before .before .before .before .before .before .before .before .before .before .before .before .before)
+add-i c = omega (arith, c .before .before .before .before .before .before .before .before .before .before .before .before .before .before .before .before .before .before .before .before .before .before .before .before .before .before .before .before .before, goes-on (c .before .before .before .before .before .before .before .before .before .before .before .before .before .before .before .before .before .before .before .loop .end) (length (c .before .before .before .before .before .before .before .before .before .before .before .before .before .before .before .before .before .before .before .before .before .before .before .before .before .before .before .before .before .args .piece .now)) (length (c .before .before .before .before .before .before .before .before .before .before .before .before .before .before .before .before .before .before .before .loop .out) - (c .before .before .before .before .before .before .before .before .before .before .before .before .before .before .before .before .before .before .before .loop .at)) (c .before .before .before .before .before .before .before .before .before .before .before .before .before .before .before .before .before .before .answered .result) (c .before .before .before .before .before .before .before .before .before .before .before .before .before .before .before .before .before .before .answered .ensures) (c .before .before .before .before .before .before .before .before .before .before .before .before .before .before .before .before .before .if1 .taken) .0)
+
+line-end-requires-2 : tie.Need-line-end-requires-2 Inv-loop μ-loop
+line-end-requires-2 c κs = omega (arith, goes-on (c .before .before .before .before .before .before .before .before .before .before .before .before .before .before .before .before .before .before .before .loop .end) (length (c .before .before .before .before .before .before .before .before .before .before .before .before .before .before .before .before .before .before .before .before .before .before .before .before .before .before .before .before .before .args .piece .now)) (length (c .before .before .before .before .before .before .before .before .before .before .before .before .before .before .before .before .before .before .before .loop .out) - (c .before .before .before .before .before .before .before .before .before .before .before .before .before .before .before .before .before .before .before .loop .at)) (c .before .before .before .before .before .before .before .before .before .before .before .before .before .before .before .before .before .before .answered .result) (c .before .before .before .before .before .before .before .before .before .before .before .before .before .before .before .before .before .before .answered .ensures) (c .before .before .before .before .before .before .before .before .before .before .before .before .before .before .before .before .before .if1 .taken) .0)
 
 loop-less : tie.Need-loop-less Inv-loop μ-loop
-loop-less c = omega arith
+loop-less c = omega (arith, c .line-end2 .ensures .after, goes-on (c .before .before .before .before .before .before .before .before .before .before .before .before .before .before .before .before .before .before .before .before .loop .end) (length (c .before .before .before .before .before .before .before .before .before .before .before .before .before .before .before .before .before .before .before .before .before .before .before .before .before .before .before .before .before .before .args .piece .now)) (length (c .before .before .before .before .before .before .before .before .before .before .before .before .before .before .before .before .before .before .before .before .loop .out) - (c .before .before .before .before .before .before .before .before .before .before .before .before .before .before .before .before .before .before .before .before .loop .at)) (c .before .before .before .before .before .before .before .before .before .before .before .before .before .before .before .before .before .before .before .answered .result) (c .before .before .before .before .before .before .before .before .before .before .before .before .before .before .before .before .before .before .before .answered .ensures) (c .before .before .before .before .before .before .before .before .before .before .before .before .before .before .before .before .before .before .if1 .taken) .0)
 
 loop-again : tie.Need-loop-again Inv-loop μ-loop
 loop-again c =
-    let l = c .before .before .before .before .before .before .before .before .before .before .before .before .before .before .before .before .before .before .before .loop in
-    let d = c .before .before .before .before .before .before .before .before .before .line-done in (
+    let l = c .before .before .before .before .before .before .before .before .before .before .before .before .before .before .before .before .before .before .before .before .loop in
+    let t = goes-on (c .before .before .before .before .before .before .before .before .before .before .before .before .before .before .before .before .before .before .before .before .loop .end) (length (c .before .before .before .before .before .before .before .before .before .before .before .before .before .before .before .before .before .before .before .before .before .before .before .before .before .before .before .before .before .before .args .piece .now)) (length (c .before .before .before .before .before .before .before .before .before .before .before .before .before .before .before .before .before .before .before .before .loop .out) - (c .before .before .before .before .before .before .before .before .before .before .before .before .before .before .before .before .before .before .before .before .loop .at)) (c .before .before .before .before .before .before .before .before .before .before .before .before .before .before .before .before .before .before .before .answered .result) (c .before .before .before .before .before .before .before .before .before .before .before .before .before .before .before .before .before .before .before .answered .ensures) (c .before .before .before .before .before .before .before .before .before .before .before .before .before .before .before .before .before .before .if1 .taken) in
+    let d = c .before .before .before .before .before .before .before .before .before .before .before .end-line in (
       d .kept .1 .1 .0 ∙ l .inv .0,
       d .kept .1 .1 .1 .0 ∙ l .inv .1,
       d .kept .1 .1 .1 .1 .0 ∙ l .inv .2,
-      going-line _ _ _ _ _ _ _ _ _ _ (l .inv .3) (c .before .before .before .before .before .before .before .before .before .before .before .before .before .before .before .before .before .before .loop-test .taken) (c .before .before .before .before .before .before .before .before .before .before .before .before .before .before .before .before .if1 .taken) (omega (arith, c .before .before .before .before .before .before .before .before .before .before .before .before .before .before .before)) _ _ _ (d .ensures) (d .kept .1 .1 .1 .1 .1 .1 .0),
+      d .kept .1 .1 .1 .1 .1 .0 ∙ l .inv .3,
+      omega arith,
+      c .line-end2 .ensures,
+      going-line _ _ _ _ _ _ _ _ _ (going-on _ _ _ _ _ _ _ _ _ _ (l .inv .6) (l .inv .5)) (t .0) (l .inv .5 .found (t .0)) (omega (arith, t .1)) _ _ _ (d .ensures) (d .kept .1 .1 .1 .1 .1 .1 .1 .1 .0),
     )
 
+slice-aggregate-hold : tie.Need-slice-aggregate-hold Inv-loop μ-loop
+slice-aggregate-hold c = sym (c .before .before .before .loop .inv .3)
+
+sub-hold : tie.Need-sub-hold Inv-loop μ-loop
+sub-hold c = c .before .before .before .loop .inv .5 .after
+
+part-hold-start : tie.Need-part-hold-start Inv-loop μ-loop
+part-hold-start c = c .before .before .before .loop .inv .5 .after
+
+part-hold-end : tie.Need-part-hold-end Inv-loop μ-loop
+part-hold-end c = c .before .before .before .loop .inv .5 .inside
+
 hold-requires : tie.Need-hold-requires Inv-loop μ-loop
-hold-requires c κs = omega arith
+hold-requires c κs = (c .before .before .before .before .loop .inv .3, c .before .before .before .before .loop .inv .4)
 
-add-i-2 : tie.Need-add-i-2 Inv-loop μ-loop
-add-i-2 c = omega arith
+holding-requires : tie.Need-holding-requires Inv-loop μ-loop
+holding-requires c κs = c .before .hold .ensures .2
 
-loop-less-2 : tie.Need-loop-less-2 Inv-loop μ-loop
-loop-less-2 c = omega arith
+same-length : tie.Need-same-length Inv-loop μ-loop
+same-length c = c .before .before .before .before .before .before .before .loop .inv .0
 
-loop-again-2 : tie.Need-loop-again-2 Inv-loop μ-loop
-loop-again-2 c =
-    let l = c .before .before .before .before .before .loop in
-    let h = c .hold .ensures in
-    (l .inv .0, l .inv .1, l .inv .2, going-byte _ _ _ _ _ _ _ _ _ _ (l .inv .3) (c .before .before .before .before .loop-test .taken) (c .before .before .if1 .left) _ _ (h .0) (h .1) (h .2))
+same-length-2 : tie.Need-same-length-2 Inv-loop μ-loop
+same-length-2 c = c .before .before .before .before .before .before .before .loop .inv .1
 
-same-length-5 : tie.Need-same-length-5 Inv-loop μ-loop
-same-length-5 c = c .before .loop .inv .0
+same-length-3 : tie.Need-same-length-3 Inv-loop μ-loop
+same-length-3 c = c .before .before .before .before .before .before .before .loop .inv .2
 
-same-length-6 : tie.Need-same-length-6 Inv-loop μ-loop
-same-length-6 c = c .before .loop .inv .1
+same-length-4 : tie.Need-same-length-4 Inv-loop μ-loop
+same-length-4 c = c .before .before .before .before .before .before .before .loop .inv .6 .same
 
-same-length-7 : tie.Need-same-length-7 Inv-loop μ-loop
-same-length-7 c = c .before .loop .inv .2
-
-same-length-8 : tie.Need-same-length-8 Inv-loop μ-loop
-same-length-8 c = c .before .loop .inv .3 .same
-
-returns-2 : tie.Need-returns-2 Inv-loop μ-loop
-returns-2 c =
-    let a = c .before .before .before .before .before .before .before .before .before .before .args in
-    let l = c .before .loop in (
-      going-ends _ _ _ _ _ _ _ _ _ _ (l .inv .3) (c .loop-test .left)
-          ∙ begun (a .rom .now) _ (a .reader) (a .piece .now) (a .out .now) _ (c .before .before .most .ensures .0),
-      l .inv .3 .inside,
-      omega (arith, l .inv .3),
+returns : tie.Need-returns Inv-loop μ-loop
+returns c =
+    let a = c .before .before .before .before .before .before .before .before .before .before .before .before .before .before .before .before .before .args in
+    let l = c .before .before .before .before .before .before .before .loop in
+    let h = c .before .before .hold in
+    let kept = ap (take (h .result)) (h .ensures .0) ∙ held-on (l .line) (l .held) _ (l .inv .3) (l .inv .4) (h .result) (h .ensures .1) in (
+      ap (leaving (world (l .now) (l .ram) (l .store) (l .image)) (l .out) (l .end) (l .at)) (c .holding .ensures ∙ ap readerOf kept)
+          ∙ going-done _ _ _ _ _ _ _ _ _ (going-on _ _ _ _ _ _ _ _ _ _ (l .inv .6) (l .inv .5)) (l .inv .5 .found) _ (c .before .before .before .before .before .before .answered .ensures) (c .before .before .before .before .before .if1 .left)
+          ∙ begun (a .rom .now) _ (a .reader) (a .piece .now) (a .out .now) _ (c .before .before .before .before .before .before .before .before .before .at-most .ensures .0),
+      l .inv .5 .inside,
+      omega (arith, l .inv .6 .room, l .inv .6 .same),
     )
 
 pub feed-spec : {M : Type 1} → statement M
@@ -127,27 +132,28 @@ feed-spec =
     (tie.spec
     Inv-loop
     μ-loop
-    most-requires
+    at-most-requires
+    line-end-requires
     loop-holds
-    shared-slice-read-b
-    sub-if2
+    sub-answered
+    answered-requires
+    slice-aggregate-end-line
+    sub-end-line
+    part-end-line-start
+    part-end-line-end
+    end-line-requires
+    add-i
+    line-end-requires-2
+    loop-less
+    loop-again
+    slice-aggregate-hold
+    sub-hold
+    part-hold-start
+    part-hold-end
+    hold-requires
+    holding-requires
     same-length
     same-length-2
     same-length-3
     same-length-4
-    returns
-    array-share-prefix-line
-    slice-aggregate-line-done
-    line-done-requires
-    add-i
-    loop-less
-    loop-again
-    hold-requires
-    add-i-2
-    loop-less-2
-    loop-again-2
-    same-length-5
-    same-length-6
-    same-length-7
-    same-length-8
-    returns-2)
+    returns)

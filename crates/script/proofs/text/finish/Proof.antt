@@ -16,15 +16,15 @@ long s = search needs
 
 returns : tie.Need-returns
 returns c =
-    let e = sym (c .before .most .ensures .0) ∙ c .if1 .taken in
+    let e = sym (c .before .at-most .ensures .0) ∙ c .if1 .taken in
     (sym (ap saying (finish-none _ _ _ e)), omega arith)
 
 returns-2 : tie.Need-returns-2
 returns-2 c =
     let a = c .before .before .before .before .before .before .before .before .before .before .before .before .before .before .before .before .before .before .args in
-    let m = c .before .before .before .before .before .before .before .before .before .before .before .before .most .ensures .0 in
+    let m = c .before .before .before .before .before .before .before .before .before .before .before .before .at-most .ensures .0 in
     let d = c .before .before .before .before .before .before .step .ensures in
-    (d .0 ∙ ap saying (ap (λ h. stepOf (a .rom .now) (world (a .state) (a .ram .now) (a .store .now) (a .image .now)) (take h (a .reader .line))) m ∙ sym (finish-some _ _ _ (λ z. c .before .before .before .before .before .before .before .before .before .before .before .if1 .left (m ∙ z)))), d .1)
+    (d .0 ∙ ap saying (ap (λ h. stepOf (a .rom .now) (world (a .state) (a .ram .now) (a .store .now) (a .image .now)) (take h (a .reader .line))) m ∙ sym (finish-some _ _ _ (long (c .before .before .before .before .before .before .before .before .before .before .before .before .before .before .before .before .before .before)) (λ z. c .before .before .before .before .before .before .before .before .before .before .before .if1 .left (m ∙ z)))), d .1)
 
 pub finish-spec : {M : Type 1} → statement M
 finish-spec =
