@@ -2,7 +2,7 @@
 use mathlib.Core.Path.{_≡_, refl, sym, ap, _∙_}
 use mathlib.Core.Bool.{Bool, true, false, _&&_}
 use mathlib.Core.List.{List}
-use Prim.Native.Nat.{ℕ, zero, suc, _+_, _-_, _*_, _^_, _<_, _≤_}
+use Prim.Native.Nat.{ℕ, zero, suc, _+_, _-_, _*_, _/_, _%_, _^_, _<_, _≤_}
 use native.Mathlib.Nat.{pow-suc, add-zero, add-suc, add-assoc, zero-add, pow-le-pow-right}
 use native.Mathlib.Numerals.{add-one}
 use native.Mathlib.Omega.{arith}
@@ -87,6 +87,31 @@ digit-back b h =
     split b 0x30
     (λ m. absurd (clash (simp (lt-leb 0x30 b m, lt-leb 0x41 b (omega arith)) at h)))
     (λ m. let w : b - 0x30 < 10 = omega arith in simp (le-leb b 0x39 l, lt-ltb (b - 0x30) 10 w) (omega arith)))
+
+-- a byte outside 30h to 46h, and one in 3Ah to 40h, is no digit; any other is one
+pub outside : (b past : ℕ) → (past + 48) % 256 ≡ b → 22 < past → past < 256 → isHex b ≡ false
+outside b past e h s =
+    split b 0x30
+    (λ l. simp (lt-leb 0x30 b l, lt-leb 0x41 b (omega arith)))
+    (λ l. simp (le-leb 0x30 b l, lt-leb b 0x39 (omega arith), le-leb 0x41 b (omega arith), lt-leb b 0x46 (omega arith)))
+
+pub in-gap : (b gap : ℕ) → (gap + 58) % 256 ≡ b → gap < 7 → isHex b ≡ false
+in-gap b gap e h = simp (le-leb 0x30 b (omega arith), lt-leb b 0x39 (omega arith), lt-leb 0x41 b (omega arith))
+
+pub inside : (b past gap : ℕ) → (past + 48) % 256 ≡ b → (gap + 58) % 256 ≡ b → past ≤ 22 → 7 ≤ gap → gap < 256 → (isHex b ≡ true) × (b % 16 + b / 64 * 9 ≡ worth b)
+inside b past gap p q h k s =
+    split 0x39 b
+    (λ l. (simp (le-leb 0x30 b (omega arith), lt-leb b 0x39 l, le-leb 0x41 b (omega arith), le-leb b 0x46 (omega arith)), simp (lt-leb b 0x39 l) (omega arith)))
+    (λ l. (simp (le-leb 0x30 b (omega arith), le-leb b 0x39 l), simp (le-leb b 0x39 l) (omega arith)))
+
+-- what a byte is taken as
+pub as-none : (b : ℕ) → isHex b ≡ false → digits.NotHex ≡ digitOf b
+unfolding digitOf
+as-none b h = simp h
+
+pub as-digit : (b v : ℕ) → (isHex b ≡ true) × (v ≡ worth b) → digits.Value v ≡ digitOf b
+unfolding digitOf
+as-digit b v h = simp (h .0) (ap digits.Value (h .1))
 
 -- one digit more
 pub hex-more : (line : List ℕ) (at n : ℕ) → hexPart line at (n + 1) ≡ (hexPart line at n && isHex (getD line (at + n) 0))

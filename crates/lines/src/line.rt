@@ -28,22 +28,19 @@ pub enum Frame {
     Malformed,
 }
 
+// No branch tells digits from letters: which comes next is not to be guessed.
 pub fn digit_of(b: u8) -> Digit
     ensures { λ r. ⌜ r ≡ digitOf b ⌝ }
 {
-    if b < 48 {
-        return Digit::NotHex;
+    let past = std::num::wrapping_sub_u8(b, 48);
+    if 22 < past {
+        return Digit::NotHex; // not in 30h to 46h
     }
-    if b <= 57 {
-        return Digit::Value(b - 48);
+    let gap = std::num::wrapping_sub_u8(b, 58);
+    if gap < 7 {
+        return Digit::NotHex; // in 3Ah to 40h
     }
-    if b < 65 {
-        return Digit::NotHex;
-    }
-    if b <= 70 {
-        return Digit::Value(b - 55);
-    }
-    Digit::NotHex
+    Digit::Value(b % 16 + b / 64 * 9)
 }
 
 // The number that n digits of a line, from `at` on, spell: at most eight. The line reader calls it at its place.
