@@ -3,7 +3,7 @@ use mathlib.Core.Path.{_≡_, refl, sym, ap, ap₂, _∙_}
 use mathlib.Core.Bool.{Bool}
 use mathlib.Core.List.{List}
 use Prim.Native.Nat.{ℕ, zero, suc, _+_, _-_, _*_, _/_, _%_, _<_, _≤_}
-use native.Mathlib.Nat.{div-div-eq-div-mul, lt-of-not-le}
+use native.Mathlib.Nat.{div-div-eq-div-mul}
 use native.Mathlib.Omega.{arith}
 use lib.Dec.{eqb}
 use lib.ListN.{length, getD, take, drop, length-take, length-drop}
@@ -20,7 +20,7 @@ use Rattle.laws.specs.Lists.{listed, packed}
 use Rattle.tiles.specs.Picture.{pictureShade, lowByte, highByte, pictureByte, pictureOf}
 use Rattle.tiles.specs.Bulk.{pixels}
 use Rattle.laws.proofs.Packed.{packed-ext, packed-of, listed-length, listed-at, listed-ext, listed-of}
-use Rattle.tiles.proofs.Pixels.{by-place, stored, stored-first, stored-second, stored-other, pixels-length, pixels-bytes, pixels-passed}
+use Rattle.tiles.proofs.Pixels.{pixels-length, pixels-bytes, pixels-passed}
 
 -- the tile column and the row of the picture that byte i of the area is of
 abbrev pub columnOf : ℕ → ℕ
@@ -75,7 +75,7 @@ unfolding shadeIn
 shadeIn-small ram x y = omega arith
 
 -- byte i's tile, row and half of it, put together again
-whole : (i : ℕ) → 16 * (16 * (i / 256) + columnOf i) + 2 * (i / 2 % 8) + i % 2 ≡ i
+pub whole : (i : ℕ) → 16 * (16 * (i / 256) + columnOf i) + 2 * (i / 2 % 8) + i % 2 ≡ i
 whole i =
     let a : i / 2 / 8 ≡ i / 16 = div-div-eq-div-mul i 2 8 in
     let b : i / 16 / 16 ≡ i / 256 = div-div-eq-div-mul i 16 16 in
@@ -163,36 +163,6 @@ pixels-whole lit regs ram long bytes =
     let a : (y * 128 + x) % 128 ≡ x = omega arith in
     let b : (y * 128 + x) / 128 ≡ y = omega arith in
     rw (a, b) at (pixels-passed lit regs 0 14336 ram (omega arith) long (y * 128 + x) (omega arith) (omega arith)))
-
--- ---- the picture written in order, two bytes at a time
-
-picture-low : (lit : ℕ → ℕ → ℕ) (regs : List ℕ) (i : ℕ) → i % 2 ≡ 0 → pictureByte lit regs i ≡ lowByte lit regs (columnOf i) (rowOf i)
-unfolding pictureByte
-picture-low lit regs i e = simp (eq-eqb (i % 2) 0 e)
-
-picture-high : (lit : ℕ → ℕ → ℕ) (regs : List ℕ) (i : ℕ) → i % 2 ≡ 0 → pictureByte lit regs (i + 1) ≡ highByte lit regs (columnOf i) (rowOf i)
-unfolding pictureByte
-picture-high lit regs i e =
-    let a : (i + 1) / 2 ≡ i / 2 = omega arith in
-    let b : (i + 1) / 16 ≡ i / 16 = sym (div-div-eq-div-mul (i + 1) 2 8) ∙ rw a (div-div-eq-div-mul i 2 8) in
-    let c : (i + 1) / 256 ≡ i / 256 = sym (div-div-eq-div-mul (i + 1) 2 128) ∙ rw a (div-div-eq-div-mul i 2 128) in
-    simp (ne-eqb ((i + 1) % 2) 0 (λ z. omega arith)) (rw (a, b, c))
-
--- the bytes below i, and then two more
-two-more : (f : ℕ → ℕ) (l : List ℕ) (i a b : ℕ) → i + 1 < length l → ((k : ℕ) → k < i → getD l k 0 ≡ f k) → a ≡ f i → b ≡ f (i + 1) → (k : ℕ) → k < i + 2 → getD (stored l i a b) k 0 ≡ f k
-two-more f l i a b h all p q k m =
-    by-place k i
-    (λ e. rw e (stored-first l i a b (omega arith) ∙ p))
-    (λ e. rw e (stored-second l i a b h ∙ q))
-    (λ x y. stored-other l i a b k x y ∙ all k (lt-of-not-le (λ z. no z x y)))
-  where
-    no : i ≤ k → (k ≡ i → ⊥) → (k ≡ i + 1 → ⊥) → ⊥
-    no z x y = split i k (λ s. y (omega arith)) (λ s. x (omega arith))
-
-pub picture-more : (lit : ℕ → ℕ → ℕ) (regs l : List ℕ) (i a b : ℕ) → i % 2 ≡ 0 → i + 1 < length l → ((k : ℕ) → k < i → getD l k 0 ≡ pictureByte lit regs k)
-    → a ≡ lowByte lit regs (columnOf i) (rowOf i) → b ≡ highByte lit regs (columnOf i) (rowOf i) → (k : ℕ) → k < i + 2 → getD (stored l i a b) k 0 ≡ pictureByte lit regs k
-picture-more lit regs l i a b e h all p q =
-    two-more (pictureByte lit regs) l i a b h all (p ∙ sym (picture-low lit regs i e)) (q ∙ sym (picture-high lit regs i e))
 
 pub picture-made : (lit : ℕ → ℕ → ℕ) (regs l : List ℕ) → length l ≡ 3584 → ((k : ℕ) → k < 3584 → getD l k 0 ≡ pictureByte lit regs k) → l ≡ pictureOf lit regs
 unfolding pictureOf

@@ -3,5 +3,6 @@ pub mod Run
 pub mod Pixels
 pub mod Area
 pub mod Eight
+pub mod Pairs
 pub mod Lit
 pub mod EdgeRows

@@ -2,3 +2,4 @@
 pub mod Tiles
 pub mod Picture
 pub mod Bulk
+pub mod Pairs

@@ -7,9 +7,12 @@ ghost use lib.ListN.{length};
 ghost use Rattle.laws.specs.Bits.{putBit};
 ghost use Rattle.lighting.specs.Taken.{Asked};
 ghost use Rattle.lighting.specs.Light.{byteAt};
+ghost use Rattle.rows.specs.Rows.{Carried};
+ghost use Rattle.strips.specs.Strips.{spreadOf};
 ghost use Rattle.tiles.specs.Tiles.{putAt};
 ghost use Rattle.tiles.specs.Picture.{lowByte, highByte, pictureOf};
 ghost use Rattle.tiles.specs.Bulk.{putNth, pixels};
+ghost use Rattle.tiles.specs.Pairs.{putPairs};
 
 // The picture's offset in RAM bank 0, its bytes, and its pixels: 112 rows of 128.
 pub const PICTURE: usize = 0x100;
@@ -52,7 +55,8 @@ fn put_nth(ram: &mut [u8], store: &[u8], set: Setting, regs: &[u8; 54], j: usize
     put_pixel(ram, x, y, pixel.shade);
 }
 
-// Puts pixel j of the picture, or the eight from j on where they stand in the same two bytes and all are to be put: the next to put.
+// Puts pixel j of the picture, or the eight from j on where they stand in the same two bytes and all are to be put, or whole rows where j
+// begins one: the next to put.
 fn put_some(
     ram: &mut [u8],
     store: &[u8],
@@ -64,6 +68,14 @@ fn put_some(
     requires { ⌜ (j < to) × (to ≤ 14336) × (8192 ≤ length (now ram)) × (length (now store) ≡ 16384) × (Asked set (now regs)) ⌝ }
     ensures { λ r. ⌜ (now (ram .exit) ≡ pixels (byteAt (now (store .entry))) (now (regs .entry)) j r (now (ram .entry))) × (j < r) × (r ≤ to) ⌝ }
 {
+    if j % 128 == 0 {
+        let first = j / 128;
+        let end = to / 128;
+        if first < end {
+            put_rows(ram, PICTURE, store, set, regs, first, end - first);
+            return 128 * end;
+        }
+    }
     if j % 8 != 0 {
         put_nth(ram, store, set, regs, j);
         return j + 1;
@@ -116,20 +128,65 @@ fn tile_row(store: &[u8], set: Setting, regs: &[u8; 54], t: usize, y: usize) -> 
     TileRow { low, high }
 }
 
-// The picture afresh, of a store of lit values: its bytes in order, two a turn.
+// Puts a row of the picture whose first byte is out[at], two bytes a tile. What is carried moves on by a row; `matrix` is that of `regs`, spread.
+fn put_line(
+    out: &mut [u8],
+    at: usize,
+    store: &[u8],
+    set: Setting,
+    regs: &[u8; 54],
+    matrix: &[u8; 1536],
+    y: usize,
+    carried: &mut [u8],
+)
+    requires { ⌜ (at + 3584 ≤ length (now out)) × (length (now store) ≡ 16384) × (y < 112) × (now matrix ≡ spreadOf (now regs)) ⌝ }
+    requires { ⌜ Asked set (now regs) ⌝ }
+    requires { ⌜ Carried (byteAt (now store)) set (y + 8) (now carried) ⌝ }
+    ensures { λ _. ⌜ (now (out .exit) ≡ putPairs (byteAt (now (store .entry))) (now (regs .entry)) at (16 * y) 16 (now (out .entry))) × Carried (byteAt (now (store .entry))) set (y + 8 + 1) (now (carried .exit)) ⌝ }
+{
+    let mut values = [0u8; 128];
+    rows::next_row(store, set, y + 8, carried, &mut values);
+    let mut low = [0u8; 16];
+    let mut high = [0u8; 16];
+    strips::shade_row(&values, matrix, regs, y + 8, &mut low, &mut high);
+    for t in 0..16 {
+        let o = at + 16 * (16 * (y / 8) + t) + 2 * (y % 8);
+        let p = o + 1;
+        out[o] = low[t];
+        out[p] = high[t];
+    }
+}
+
+// Puts as many rows of it, from one on.
+fn put_rows(
+    out: &mut [u8],
+    at: usize,
+    store: &[u8],
+    set: Setting,
+    regs: &[u8; 54],
+    first: usize,
+    count: usize,
+)
+    requires { ⌜ (at + 3584 ≤ length (now out)) × (length (now store) ≡ 16384) × (first < 112) × (first + count ≤ 112) ⌝ }
+    requires { ⌜ Asked set (now regs) ⌝ }
+    ensures { λ _. ⌜ now (out .exit) ≡ putPairs (byteAt (now (store .entry))) (now (regs .entry)) at (16 * first) (16 * count) (now (out .entry)) ⌝ }
+{
+    let mut matrix = [0u8; 1536];
+    strips::spread(regs, &mut matrix);
+    let mut carried = [0u8; 128];
+    rows::first_row(store, set, first + 8, &mut carried);
+    for k in 0..count {
+        put_line(out, at, store, set, regs, &matrix, first + k, &mut carried);
+    }
+}
+
+// The picture afresh, of a store of lit values.
 pub fn fill(store: &[u8], set: Setting, regs: &[u8; 54], out: &mut [u8])
     requires { ⌜ (length (now store) ≡ 16384) × (length (now out) ≡ 3584) ⌝ }
     requires { ⌜ Asked set (now regs) ⌝ }
     ensures { λ _. ⌜ now (out .exit) ≡ pictureOf (byteAt (now (store .entry))) (now (regs .entry)) ⌝ }
 {
-    let mut i = 0;
-    while i < PICTURE_SIZE {
-        let row = tile_row(store, set, regs, i / 16 % 16, 8 * (i / 256) + i / 2 % 8);
-        let next = i + 1;
-        out[i] = row.low;
-        out[next] = row.high;
-        i += 2;
-    }
+    put_rows(out, 0, store, set, regs, 0, 112);
 }
 
 // Pixels j to j + 7 of the picture, which stand in the same two bytes.
