@@ -2,4 +2,5 @@
 pub mod Exists
 pub mod Refusals
 pub mod Ticks
+pub mod Passing
 pub mod TickSum

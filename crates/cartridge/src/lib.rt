@@ -16,101 +16,110 @@ use timing::Cycles;
 use timing::bank_place;
 ghost use mathlib.Core.Path.{_≡_};
 ghost use mathlib.Core.Bool.{Bool, true, false};
-ghost use mathlib.Core.List.{List};
+ghost use mathlib.Core.List.{List, [], _∷_};
 ghost use Prim.Native.Nat.{ℕ, _+_, _*_, _/_, _%_, _<_, _≤_};
 ghost use lib.ListN.{length, getD, set};
 ghost use Rattle.timing.specs.Lent.{romAllowed, ramAllowed};
+ghost use Rattle.controller.specs.declared.Controller.{Controller};
 ghost use Rattle.controller.specs.State.{started};
 ghost use Rattle.controller.specs.Outcome.{verdictNumber, readOutcome, writeOutcome};
 ghost use Rattle.cartridge.specs.Bus.{registersOn, registerRead, ramRead, romRead, byteRead, enable, controlWritten, isStart, captureWritten, registerWritten, storeWritten, ramWritten, byteWritten, Left, left};
 ghost use Rattle.capture.specs.Capture.{begun};
 ghost use Rattle.controller.specs.Table.{lowest};
-ghost use Rattle.cartridge.specs.Calls.{readRows, readMeans, writeRows, writeMeans};
+ghost use Rattle.cartridge.specs.Calls.{readMeans, writeMeans};
+ghost use Rattle.cartridge.specs.Aside.{facing, lentToRead, lentToWrite};
 
 // Bit 4 of select selects the registers.
-fn registers_on(state: Controller) -> bool
-    ensures { λ r. ⌜ r ≡ registersOn state ⌝ }
+pub fn registers_on(select: u8) -> bool
+    ensures { λ r. ⌜ r ≡ registersOn (facing false 0 select 0) ⌝ }
 {
-    state.select / 16 % 2 == 1
+    select / 16 % 2 == 1
 }
 
 // Register 0 has bit 0 set: RAM is out of reach.
-fn busy(state: Controller) -> bool
-    ensures { λ r. ⌜ r ≡ started (state .registers) ⌝ }
+fn busy(first: u8) -> bool
+    ensures { λ r. ⌜ r ≡ started (first ∷ []) ⌝ }
 {
-    state.registers[0] % 2 == 1
+    first % 2 == 1
 }
 
 // A register read: register 0 gives its three low bits, all others 00.
-fn register_read(state: Controller, address: u16) -> u8
-    ensures { λ r. ⌜ r ≡ registerRead state address ⌝ }
+fn register_read(first: u8, address: u16) -> u8
+    ensures { λ r. ⌜ r ≡ registerRead (facing false 0 0 first) address ⌝ }
 {
     if address % 128 == 0 {
-        return state.registers[0] % 8;
+        return first % 8;
     }
     0
 }
 
 // A RAM read: 00 while register 0 has bit 0 set.
-fn ram_read(state: Controller, ram: &[u8], address: u16) -> u8
+fn ram_read(select: u8, first: u8, ram: &[u8], address: u16) -> u8
     requires { ⌜ ramAllowed (length (now ram)) ≡ true ⌝ }
-    ensures { λ r. ⌜ r ≡ ramRead state (now (ram .entry)) address ⌝ }
+    ensures { λ r. ⌜ r ≡ ramRead (facing false 0 select first) (now (ram .entry)) address ⌝ }
 {
-    if busy(state) {
+    if busy(first) {
         return 0;
     }
-    let at = bank_place(state.select % 16, ram.len(), Controller::RAM_BANK)
+    let at = bank_place(select % 16, ram.len(), Controller::RAM_BANK)
         + address as usize % Controller::RAM_BANK;
     ram[at]
 }
 
 // A ROM read: bank 0 below 4000, the ROM bank above.
-fn rom_read(state: Controller, rom: &[u8], address: u16) -> u8
+fn rom_read(bank: u8, rom: &[u8], address: u16) -> u8
     requires { ⌜ (romAllowed (length (now rom)) ≡ true) × (address < 0x8000) ⌝ }
-    ensures { λ r. ⌜ r ≡ romRead state (now (rom .entry)) address ⌝ }
+    ensures { λ r. ⌜ r ≡ romRead (facing false bank 0 0) (now (rom .entry)) address ⌝ }
 {
     if address < 0x4000 {
         return rom[address as usize];
     }
-    let at = bank_place(state.bank, rom.len(), Controller::ROM_BANK)
+    let at = bank_place(bank, rom.len(), Controller::ROM_BANK)
         + address as usize % Controller::ROM_BANK;
     rom[at]
 }
 
-// The byte at an address on the cartridge.
-fn byte_read(state: Controller, rom: &[u8], ram: &[u8], address: u16) -> u8
+// The byte at an address on the cartridge, by ROM bank, select and register 0.
+pub fn byte_read(bank: u8, select: u8, first: u8, rom: &[u8], ram: &[u8], address: u16) -> u8
     requires { ⌜ (romAllowed (length (now rom)) ≡ true) × (ramAllowed (length (now ram)) ≡ true) ⌝ }
-    ensures { λ r. ⌜ r ≡ byteRead state (now (rom .entry)) (now (ram .entry)) address ⌝ }
+    ensures { λ r. ⌜ r ≡ byteRead (facing false bank select first) (now (rom .entry)) (now (ram .entry)) address ⌝ }
 {
     if address < 0x8000 {
-        return rom_read(state, rom, address);
+        return rom_read(bank, rom, address);
     }
-    if registers_on(state) {
-        return register_read(state, address);
+    if registers_on(select) {
+        return register_read(first, address);
     }
-    ram_read(state, ram, address)
+    ram_read(select, first, ram, address)
 }
 
-// What a read was lent, judged.
-fn judge_read(state: Controller, rom: &[u8], ram: &[u8], address: u16) -> Verdict
-    ensures { λ r. ⌜ verdictNumber r ≡ lowest (readRows state (now (rom .entry)) (now (ram .entry)) address) ⌝ }
+// What a read was lent, judged: all but the state.
+pub fn lent_to_read(rom: &[u8], ram: &[u8], address: u16) -> Verdict
+    ensures { λ r. ⌜ verdictNumber r ≡ lowest (lentToRead (now (rom .entry)) (now (ram .entry)) address) ⌝ }
 {
     let place = no_place(address, Verdict::Fits);
-    state.no_state(no_rom(rom.len(), no_ram(ram.len(), place)))
+    no_rom(rom.len(), no_ram(ram.len(), place))
 }
 
 // A read: lent ROM and RAM.
 pub fn read(state: Controller, rom: &[u8], ram: &[u8], address: u16) -> ReadDone
     ensures { λ r. ⌜ readOutcome r (now (ram .entry)) ≡ readMeans state (now (rom .entry)) (now (ram .entry)) address ⌝ }
 {
-    let verdict = judge_read(state, rom, ram, address);
+    let verdict = state.no_state(lent_to_read(rom, ram, address));
     if let Verdict::Refused(why) = verdict {
         return ReadDone {
             state,
             answer: ReadAnswer::Refused(why),
         };
     }
-    let byte = byte_read(state, rom, ram, address);
+    let byte = byte_read(
+        state.bank,
+        state.select,
+        state.registers[0],
+        rom,
+        ram,
+        address,
+    );
     ReadDone {
         state,
         answer: ReadAnswer::Byte(byte),
@@ -151,11 +160,11 @@ fn enable_write(mut state: Controller, value: u8) -> Controller
 }
 
 // Whether a write of register 0 is a start: bit 0 set, no capture held.
-fn is_start(state: Controller, value: u8) -> bool
-    ensures { λ r. ⌜ r ≡ isStart state value ⌝ }
+pub fn is_start(held: bool, value: u8) -> bool
+    ensures { λ r. ⌜ ((c : Controller) → c .held ≡ held → r ≡ isStart c value) ⌝ }
 {
     if value % 2 == 1 {
-        return !state.held;
+        return !held;
     }
     false
 }
@@ -175,11 +184,11 @@ fn begin(mut state: Controller, value: u8) -> Controller
 }
 
 // A write of register 0. A start lights the image into the store, by the registers just taken.
-fn capture_write(mut state: Controller, store: &mut [u8], image: &[u8], value: u8) -> Controller
+pub fn capture_write(mut state: Controller, store: &mut [u8], image: &[u8], value: u8) -> Controller
     requires { ⌜ (length (now store) ≡ 16384) × (length (now image) ≡ 16384) ⌝ }
     ensures { λ r. ⌜ (r ≡ captureWritten state value) × (now (store .exit) ≡ storeWritten state (now (store .entry)) (now (image .entry)) 0 value) ⌝ }
 {
-    if is_start(state, value) {
+    if is_start(state.held, value) {
         let next = begin(state, value % 8);
         let taken = next.taken;
         light_frame(image, Setting::of(&taken), store);
@@ -211,17 +220,17 @@ fn register_write(
 }
 
 // A write to RAM: ignored while register 0 has bit 0 set, and unless enabled.
-fn ram_write(state: Controller, ram: &mut [u8], address: u16, value: u8)
+pub fn ram_write(enabled: bool, select: u8, first: u8, ram: &mut [u8], address: u16, value: u8)
     requires { ⌜ ramAllowed (length (now ram)) ≡ true ⌝ }
-    ensures { λ _. ⌜ now (ram .exit) ≡ ramWritten state (now (ram .entry)) address value ⌝ }
+    ensures { λ _. ⌜ now (ram .exit) ≡ ramWritten (facing enabled 0 select first) (now (ram .entry)) address value ⌝ }
 {
-    if busy(state) {
+    if busy(first) {
         return;
     }
-    if !state.enabled {
+    if !enabled {
         return;
     }
-    let at = bank_place(state.select % 16, ram.len(), Controller::RAM_BANK)
+    let at = bank_place(select % 16, ram.len(), Controller::RAM_BANK)
         + address as usize % Controller::RAM_BANK;
     ram[at] = value;
 }
@@ -241,20 +250,27 @@ fn byte_write(
     if address < 0x8000 {
         return control_write(state, address, value);
     }
-    if registers_on(state) {
+    if registers_on(state.select) {
         return register_write(state, store, image, address as usize % 128, value);
     }
-    ram_write(state, ram, address, value);
+    ram_write(
+        state.enabled,
+        state.select,
+        state.registers[0],
+        ram,
+        address,
+        value,
+    );
     state
 }
 
-// What a write was lent, judged.
-fn judge_write(state: Controller, ram: &[u8], store: &[u8], image: &[u8], address: u16) -> Verdict
-    ensures { λ r. ⌜ verdictNumber r ≡ lowest (writeRows state (now (ram .entry)) (now (store .entry)) (now (image .entry)) address) ⌝ }
+// What a write was lent, judged: all but the state.
+pub fn lent_to_write(ram: &[u8], store: &[u8], image: &[u8], address: u16) -> Verdict
+    ensures { λ r. ⌜ verdictNumber r ≡ lowest (lentToWrite (now (ram .entry)) (now (store .entry)) (now (image .entry)) address) ⌝ }
 {
     let place = no_place(address, Verdict::Fits);
     let frames = no_frame(store.len(), no_frame(image.len(), place));
-    state.no_state(no_ram(ram.len(), frames))
+    no_ram(ram.len(), frames)
 }
 
 // A write: lent RAM, frame store and image.
@@ -268,7 +284,7 @@ pub fn write(
 ) -> WriteDone
     ensures { λ r. ⌜ writeOutcome r (now (ram .exit)) (now (store .exit)) ≡ writeMeans state (now (ram .entry)) (now (store .entry)) (now (image .entry)) address value ⌝ }
 {
-    let verdict = judge_write(state, ram, store, image, address);
+    let verdict = state.no_state(lent_to_write(ram, store, image, address));
     if let Verdict::Refused(why) = verdict {
         return WriteDone {
             state,

@@ -1,12 +1,17 @@
 -- Which records can exist: what each test of the code comes to in the definition. Assumes nothing.
 use mathlib.Core.Path.{_≡_, refl, sym, ap, _∙_}
 use mathlib.Core.Bool.{Bool, true, false, not, _&&_, _||_, and-false, or-false}
+use mathlib.Core.List.{List, [], _∷_}
 use Prim.Native.Nat.{ℕ, zero, suc, _%_, _<_, _≤_}
 use native.Mathlib.Omega.{arith}
 use lib.Dec.{eqb, ltb, leb}
 use borrow.Author.Tests.{eq-eqb, ne-eqb, lt-ltb, le-ltb, lt-leb, le-leb, not-true, not-false}
 use Rattle.laws.proofs.Order.{split}
-use Rattle.controller.specs.State.{started, leftOver, wrongCapture}
+use lib.ListN.{getD}
+use Rattle.controller.specs.State.{started, leftOver, wrongCapture, cantExist}
+use Rattle.controller.specs.Aside.{seen}
+use Rattle.timing.specs.declared.Cycles.{Cycles}
+use Rattle.timing.specs.Registers.{allZero}
 use Rattle.controller.specs.declared.Controller.{Controller}
 
 -- one test or the other: `<` is `not ≥`
@@ -26,10 +31,19 @@ odd-yes n h = eq-eqb (n % 2) 1 (odd (n % 2) (omega arith) h)
     odd (suc (suc r)) l h = absurd (omega arith)
 
 -- with a capture held nothing is left over, and with none no capture is wrong: what is left of the last tests
-pub held-only : (c : Controller) → c .held ≡ true → ((started (c .registers) && not (c .held)) || (leftOver c || wrongCapture c)) ≡ wrongCapture c
-unfolding leftOver wrongCapture
-held-only c h = simp (h, and-false)
+module _ (bank select first : ℕ) (held : Bool) (elapsed : Cycles) (taken : List ℕ) where
+  abbrev looked : Controller
+  looked = seen bank select first held elapsed taken
 
-pub none-only : (c : Controller) → c .held ≡ false → (leftOver c || wrongCapture c) ≡ leftOver c
-unfolding leftOver wrongCapture
-none-only c h = simp (h, or-false)
+  pub held-only : held ≡ true → ((started (first ∷ []) && not held) || (leftOver looked || wrongCapture looked)) ≡ wrongCapture (seen 0 0 0 true elapsed taken)
+  unfolding leftOver wrongCapture
+  held-only h = simp (h, and-false)
+
+  pub none-only : held ≡ false → (leftOver looked || wrongCapture looked) ≡ leftOver (seen 0 0 0 false elapsed taken)
+  unfolding leftOver wrongCapture
+  none-only h = rw h (or-false (not (eqb (elapsed .0) 0) || not (allZero taken)))
+
+-- whether a record can exist is asked of what is looked at
+pub looks-same : (c : Controller) (first : ℕ) → first ≡ getD (c .registers) 0 0 → cantExist (seen (c .bank) (c .select) first (c .held) (c .elapsed) (c .taken)) ≡ cantExist c
+unfolding cantExist leftOver wrongCapture
+looks-same c first e = rw e

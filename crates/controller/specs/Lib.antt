@@ -4,3 +4,4 @@ pub mod Outcome
 pub mod Table
 pub mod Picture
 pub mod Inspect
+pub mod Aside

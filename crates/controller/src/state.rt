@@ -5,7 +5,9 @@ use timing::all_zero;
 use timing::total;
 ghost use mathlib.Core.Path.{_≡_};
 ghost use mathlib.Core.Bool.{true, false, not};
+ghost use lib.ListN.{length};
 ghost use Rattle.controller.specs.State.{oneMore, resetState, leftOver, wrongCapture, canExist};
+ghost use Rattle.controller.specs.Aside.{seen};
 
 // One more, wrapping from 65,535 to 0.
 pub fn one_more(n: u16) -> u16
@@ -49,57 +51,68 @@ impl Controller {
         }
     }
 
-    // Whether a held capture can exist: taken register 0 is odd and at most 7, and elapsed is below its total.
-    fn holds_capture(self) -> bool
-        requires { ⌜ self .held ≡ true ⌝ }
-        ensures { λ r. ⌜ r ≡ not (wrongCapture self) ⌝ }
-    {
-        let taken = self.taken;
-        let first = taken[0];
-        if first % 2 == 0 {
-            return false;
-        }
-        if 7 < first {
-            return false;
-        }
-        let e = self.elapsed.0;
-        let most = total(&taken);
-        e < most.0
-    }
-
-    // Whether nothing is left over where no capture is held.
-    fn holds_nothing(self) -> bool
-        requires { ⌜ self .held ≡ false ⌝ }
-        ensures { λ r. ⌜ r ≡ not (leftOver self) ⌝ }
-    {
-        let e = self.elapsed.0;
-        if e != 0 {
-            return false;
-        }
-        let taken = self.taken;
-        all_zero(&taken)
-    }
-
     // Whether the state record can exist.
     pub fn exists(self) -> bool
         ensures { λ r. ⌜ r ≡ canExist self ⌝ }
     {
-        if 63 < self.bank {
-            return false;
-        }
-        if 31 < self.select {
-            return false;
-        }
-        let first = self.registers[0];
-        if 7 < first {
-            return false;
-        }
-        if self.held {
-            return self.holds_capture();
-        }
-        if first % 2 == 1 {
-            return false;
-        }
-        self.holds_nothing()
+        let taken = self.taken;
+        can_exist(
+            self.bank,
+            self.select,
+            self.registers[0],
+            self.held,
+            self.elapsed,
+            &taken,
+        )
     }
+}
+
+// Whether a held capture can exist: taken register 0 is odd and at most 7, and elapsed is below its total.
+fn holds_capture(elapsed: Cycles, taken: &[u8]) -> bool
+    requires { ⌜ length (now taken) ≡ 54 ⌝ }
+    ensures { λ r. ⌜ r ≡ not (wrongCapture (seen 0 0 0 true elapsed (now (taken .entry)))) ⌝ }
+{
+    let first = taken[0];
+    if first % 2 == 0 {
+        return false;
+    }
+    if 7 < first {
+        return false;
+    }
+    let most = total(taken);
+    elapsed.0 < most.0
+}
+
+// Whether nothing is left over where no capture is held.
+fn holds_nothing(elapsed: Cycles, taken: &[u8]) -> bool
+    requires { ⌜ length (now taken) ≡ 54 ⌝ }
+    ensures { λ r. ⌜ r ≡ not (leftOver (seen 0 0 0 false elapsed (now (taken .entry)))) ⌝ }
+{
+    if elapsed.0 != 0 {
+        return false;
+    }
+    all_zero(taken)
+}
+
+// Whether a record can exist, by all that is asked of it: ROM bank, select, register 0, the capture held.
+pub fn can_exist(bank: u8, select: u8, first: u8, held: bool, elapsed: Cycles, taken: &[u8]) -> bool
+    requires { ⌜ length (now taken) ≡ 54 ⌝ }
+    ensures { λ r. ⌜ r ≡ canExist (seen bank select first held elapsed (now (taken .entry))) ⌝ }
+{
+    if 63 < bank {
+        return false;
+    }
+    if 31 < select {
+        return false;
+    }
+    if 7 < first {
+        return false;
+    }
+    if held {
+        return holds_capture(elapsed, taken);
+    }
+    if first % 2 == 1 {
+        return false;
+    }
+    holds_nothing(elapsed, taken)
 }

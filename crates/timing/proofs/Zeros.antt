@@ -1,22 +1,15 @@
--- Registers that are all 0: what their sum comes to. Assumes nothing.
-use mathlib.Core.Path.{_≡_, refl, sym, ap, _∙_}
-use mathlib.Core.Bool.{Bool, _&&_, and-false, and-true}
-use mathlib.Core.List.{List}
-use Prim.Native.Nat.{ℕ, zero, suc, _+_}
-use native.Mathlib.Nat.{add-zero}
+-- Bytes that are all 0: what their bits come to together. Assumes nothing.
+use mathlib.Core.Path.{_≡_, sym, ap, _∙_}
+use mathlib.Core.Bool.{_&&_}
+use Prim.Native.Nat.{ℕ, zero, suc}
 use native.Mathlib.Omega.{arith}
+use lib.Bits.{bitOr, or-zero-l, or-add-and, and-le-r}
 use lib.Dec.{eqb}
-use lib.ListN.{getD}
 use borrow.Author.Tests.{ne-eqb}
-use Rattle.laws.specs.Sums.{sumOf}
-use Rattle.timing.specs.Registers.{zeroTo}
 
-one-more : (n : ℕ) (b : Bool) (x : ℕ) → eqb n 0 ≡ b → eqb (n + x) 0 ≡ (b && eqb x 0)
-one-more n b zero e = rw add-zero (e ∙ sym (and-true b))
-one-more n b (suc x) e = ne-eqb (n + suc x) 0 (λ q. omega arith) ∙ sym (ap (λ t. b && t) (ne-eqb (suc x) 0 (λ q. omega arith)) ∙ and-false b)
-
--- a sum is 0 exactly where each number is
-pub sum-zero : (s : List ℕ) (n : ℕ) → eqb (sumOf s n) 0 ≡ zeroTo s n
-unfolding zeroTo sumOf
-sum-zero s zero = refl
-sum-zero s (suc n) = one-more (sumOf s n) (zeroTo s n) (getD s n 0) (sum-zero s n)
+-- the bits of two together are 0 exactly where both are
+pub none-of-both : (a b : ℕ) → eqb (bitOr a b) 0 ≡ (eqb a 0 && eqb b 0)
+none-of-both zero b = ap (λ n. eqb n 0) (or-zero-l b)
+none-of-both (suc a) b =
+    ne-eqb (bitOr (suc a) b) 0 (λ q. omega (arith, or-add-and (suc a) b, and-le-r (suc a) b))
+    ∙ sym (ap (λ t. t && eqb b 0) (ne-eqb (suc a) 0 (λ q. omega arith)))

@@ -4,8 +4,8 @@ use lighting::Setting;
 ghost use mathlib.Core.Path.{_≡_};
 ghost use mathlib.Core.Bool.{Bool, true, false};
 ghost use Prim.Native.Nat.{ℕ, _+_, _-_, _*_, _/_, _%_, _<_, _≤_, min};
+ghost use lib.Count.{ones};
 ghost use lib.ListN.{length};
-ghost use Rattle.laws.specs.Sums.{sumOf};
 ghost use Rattle.lighting.specs.Taken.{exposureOf};
 ghost use Rattle.lighting.specs.Light.{byteAt};
 ghost use Rattle.tiles.specs.Bulk.{pixels};
@@ -57,12 +57,12 @@ pub fn ram_allowed(len: usize) -> bool
     banks_allowed(len, RAM_BANK, 16)
 }
 
-// The bank of a number in so many bytes of banks of a size: taken modulo their count.
+// The bank of a number in so many bytes of banks of a size: taken modulo their count, which has one bit set, so that the bits below it are left.
 pub fn bank_place(number: u8, len: usize, size: usize) -> usize
-    requires { ⌜ (0 < size) × (0 < len / size) × (len < 2000000) ⌝ }
+    requires { ⌜ (0 < size) × (ones (len / size) ≡ 1) × (len < 2000000) ⌝ }
     ensures { λ r. ⌜ r ≡ number % (len / size) * size ⌝ }
 {
-    number as usize % (len / size) * size
+    (number as usize & (len / size - 1)) * size
 }
 
 // A byte as a wider number, with its bound.
@@ -72,22 +72,16 @@ fn wide(x: u8) -> u32
     x as u32
 }
 
-// The sum of 54 bytes.
-fn sum(regs: &[u8; 54]) -> u32
-    ensures { λ r. ⌜ r ≡ sumOf (now (regs .entry)) 54 ⌝ }
-{
-    let mut n: u32 = 0;
-    for i in 0..54 {
-        n += wide(regs[i]);
-    }
-    n
-}
-
-// Whether each of 54 registers is 0.
-pub fn all_zero(regs: &[u8; 54]) -> bool
+// Whether each of 54 registers is 0: their bits together, with no question for each, so that it becomes vector code.
+pub fn all_zero(regs: &[u8]) -> bool
+    requires { ⌜ length (now regs) ≡ 54 ⌝ }
     ensures { λ r. ⌜ r ≡ allZero (now (regs .entry)) ⌝ }
 {
-    sum(regs) == 0
+    let mut bits: u8 = 0;
+    for i in 0..regs.len() {
+        bits = bits | regs[i];
+    }
+    bits == 0
 }
 
 // Cartridge cycles (PHI), and sensor clocks: two cycles make one clock.
@@ -105,14 +99,16 @@ impl Cycles {
 }
 
 // Exposure = A002 * 256 + A003.
-fn exposure(regs: &[u8; 54]) -> u32
+fn exposure(regs: &[u8]) -> u32
+    requires { ⌜ length (now regs) ≡ 54 ⌝ }
     ensures { λ r. ⌜ (r ≡ exposureOf (now (regs .entry))) × (r < 65536) ⌝ }
 {
     wide(regs[2]) * 256 + wide(regs[3])
 }
 
 // Total cycles of a capture with these registers taken.
-pub fn total(regs: &[u8; 54]) -> Cycles
+pub fn total(regs: &[u8]) -> Cycles
+    requires { ⌜ length (now regs) ≡ 54 ⌝ }
     ensures { λ r. ⌜ (r .0 ≡ totalOf (now (regs .entry))) × (r .0 < 2000000) ⌝ }
 {
     let timed = BASE + 16 * exposure(regs);

@@ -19,11 +19,11 @@ use Rattle.capture.proofs.tick.Tie as tie
 abbrev start : tie.After-enum-told → tie.Start
 start e = e .before .before .before .before .before .before
 
-fits : (e : tie.After-enum-told) → TickFits (start e .args .state) (start e .args .ram .now) (start e .args .store .now)
+fits : (e : tie.After-enum-told) → TickFits (start e .args .t1) (start e .args .ram .now) (start e .args .store .now)
 fits e = tick-fits _ _ _ (fits-none _ _ (e .before .before .judge-tick .ensures) (e .enum-told .given .1))
 
-means : (e : tie.After-enum-told) → ticked (start e .args .store .now) (ticks (byteAt (start e .args .store .now)) (start e .args .n) (from (start e .args .state) (start e .args .ram .now)))
-    ≡ tickMeans (start e .args .state) (start e .args .ram .now) (start e .args .store .now) (start e .args .n)
+means : (e : tie.After-enum-told) → ticked (start e .args .store .now) (ticks (byteAt (start e .args .store .now)) (start e .args .n) (from (start e .args .t1) (start e .args .ram .now)))
+    ≡ tickMeans (start e .args .t1) (start e .args .ram .now) (start e .args .store .now) (start e .args .n)
 means e = by-fits (tick-refuses _ _ _ (start e .args .n)) _ (e .before .before .judge-tick .ensures) (e .enum-told .given .1)
 
 returns : tie.Need-returns
@@ -31,7 +31,7 @@ returns c = by-why (tick-refuses _ _ _ _) _ (c .before .before .before .judge-ti
 
 returns-2 : tie.Need-returns-2
 returns-2 c =
-    let e = c .before .before .before in
+    let e = c .before .before .before .before in
     let a = start e .args in
     c .ran .ensures _ _
     ∙ ap (ticked (a .store .now)) (sym (idle (byteAt (a .store .now)) _ (a .n) (left-out (c .before .before .is-running .ensures) (c .before .if1 .taken))))
@@ -39,8 +39,8 @@ returns-2 c =
 
 run-requires : tie.Need-run-requires
 run-requires c κs =
-    let e = c .before .before .before in
-    let state = start e .args .state in
+    let e = c .before .before .before .before in
+    let state = start e .args .t1 in
     let runs = let-in (c .before .before .is-running .ensures) (c .before .if1 .left) in (
       runs,
       before-total state (fits e .exists) (both-left (state .held) _ runs),
@@ -49,7 +49,7 @@ run-requires c κs =
     )
 
 returns-3 : tie.Need-returns-3
-returns-3 c = c .before .before .run .ensures ∙ means (c .before .before .before .before .before .before)
+returns-3 c = c .before .before .run .ensures ∙ means (c .before .before .before .before .before .before .before)
 
 pub tick-spec : {M : Type 1} → statement M
 tick-spec =
@@ -59,6 +59,7 @@ tick-spec =
     (λ c. search needs)
     (λ c. search needs)
     returns
+    (λ c. search needs)
     (λ c. search needs)
     (λ c κs. search needs)
     (λ c κs. search needs)

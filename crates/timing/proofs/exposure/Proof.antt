@@ -5,24 +5,6 @@ use borrow.Author.Needs.{needs}
 use Rattle.timing.proofs.exposure.Statement.{statement}
 use Rattle.timing.proofs.exposure.Tie as tie
 
-element-copy-out-wide : tie.Need-element-copy-out-wide
-element-copy-out-wide c = search needs
-
-wide-requires : tie.Need-wide-requires
-wide-requires c κs = search needs
-
-mul-result : tie.Need-mul-result
-mul-result c = search needs
-
-element-copy-out-wide-2 : tie.Need-element-copy-out-wide-2
-element-copy-out-wide-2 c = search needs
-
-wide-requires-2 : tie.Need-wide-requires-2
-wide-requires-2 c κs = search needs
-
-add-result : tie.Need-add-result
-add-result c = search needs
-
 returns : tie.Need-returns
 unfolding exposureOf
 returns c = omega arith
@@ -31,10 +13,10 @@ pub exposure-spec : {M : Type 1} → statement M
 exposure-spec =
     tie.close
     (tie.spec
-    element-copy-out-wide
-    wide-requires
-    mul-result
-    element-copy-out-wide-2
-    wide-requires-2
-    add-result
+    (λ c. search needs)
+    (λ c κs. search needs)
+    (λ c. search needs)
+    (λ c. search needs)
+    (λ c κs. search needs)
+    (λ c. search needs)
     returns)
