@@ -57,7 +57,7 @@ fn two_at(state: &[u8], at: usize) -> u16
 }
 
 // 54 bytes from a place on.
-fn registers_at(state: &[u8], at: usize) -> [u8; 54]
+pub fn registers_at(state: &[u8], at: usize) -> [u8; 54]
     requires { ⌜ at + 54 ≤ length (now state) ⌝ }
     ensures { λ r. ⌜ r ≡ registersAt (now (state .entry)) at ⌝ }
 {

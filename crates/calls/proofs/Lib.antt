@@ -1,0 +1,2 @@
+-- Laws of calls over the bytes of a record.
+pub mod Bytes
