@@ -8,7 +8,8 @@ use lib.Dec.{eqb}
 use lib.ListN.{length, getD, take}
 use lib.Seq.{take-suc}
 use Rattle.laws.specs.Pick.{pick}
-use Rattle.laws.specs.Iter.{iter, iter-cons}
+use Rattle.laws.specs.Iter.{iter}
+use Rattle.laws.proofs.Iter.{iter-cons}
 use Rattle.crc.specs.Crc.{polynomial, ones, bitStep, byteStep, over, updated}
 use Rattle.crc.proofs.Xor.{by-bit, xor-low, xor-half, xor-assoc, xor-back, xor-swap, xor-parts}
 

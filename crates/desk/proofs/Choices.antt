@@ -12,7 +12,7 @@ use Rattle.controller.specs.State.{cantExist}
 use Rattle.controller.specs.Outcome.{writeOutcome}
 use Rattle.controller.specs.Outcome.{refusal}
 use Rattle.controller.specs.Table.{lowest}
-use Rattle.controller.proofs.Exists.{neither-left, neither-right}
+use Rattle.laws.proofs.Bools.{neither-left, neither-right}
 use Rattle.controller.proofs.Only.{only-write}
 use Rattle.controller.proofs.Refusals.{Refuses, inOutcome, refuses, risingFrom, first-fails}
 use Rattle.desk.specs.declared.choice.Exposure.{Exposure}

@@ -9,7 +9,7 @@ use lib.Dec.{eqb, ltb}
 use lib.ListN.{length, getD, take, drop, replicate, length-set, length-drop}
 use lib.Seq.{length-take-le}
 use borrow.Author.Tests.{eqb-true, not-false}
-use Rattle.laws.specs.Iter.{iter-keeps}
+use Rattle.laws.proofs.Iter.{iter-keeps}
 use Rattle.laws.proofs.Pick.{pick-ind}
 use Rattle.lighting.specs.Taken.{exposureOf}
 use Rattle.controller.specs.declared.Controller.{Controller}
@@ -23,10 +23,10 @@ use Rattle.capture.specs.Capture.{Ticking, begun, moved, ended, running, runs, 
 use Rattle.cartridge.specs.Calls.{writeRows, writeMeans}
 use Rattle.capture.specs.Calls.{tickRows, tickMeans}
 use Rattle.controller.specs.Table.{lowest}
-use Rattle.controller.proofs.Exists.{neither-left, exists-parts, before-total}
+use Rattle.controller.proofs.Exists.{exists-parts, before-total}
 use Rattle.cartridge.proofs.Refusals.{write-refuses}
 use Rattle.capture.proofs.Refusals.{tick-refuses, tick-fits}
-use Rattle.laws.proofs.Bools.{either}
+use Rattle.laws.proofs.Bools.{either, neither-left}
 use Rattle.capture.proofs.TickSum.{Kept, ticks-keep, again, after, tick-sum}
 use Rattle.desk.specs.declared.choice.Exposure.{Exposure}
 use Rattle.desk.specs.Choice.{withRegisters, chooseRows, chooseMeans}

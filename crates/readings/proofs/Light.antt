@@ -8,7 +8,8 @@ use Prim.Native.Nat.{ℕ, zero, suc, _+_, _/_, _%_, _≤_}
 use native.Mathlib.Omega.{arith}
 use lib.Dec.{eqb}
 use lib.ListN.{set}
-use Rattle.laws.specs.Iter.{iter, iter-keeps}
+use Rattle.laws.specs.Iter.{iter}
+use Rattle.laws.proofs.Iter.{iter-keeps}
 use Rattle.laws.proofs.Pick.{pick-ind, never}
 use Rattle.laws.proofs.Bools.{both-left}
 use Rattle.laws.proofs.Packed.{listed-ext}

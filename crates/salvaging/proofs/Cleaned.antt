@@ -9,7 +9,7 @@ use lib.ListN.{length, take, replicate, length-append}
 use lib.Seq.{take-take, take-length, length-take-le}
 use borrow.Author.Tests.{eqb-true}
 use Rattle.laws.specs.Pick.{pick}
-use Rattle.laws.specs.Iter.{iter-keeps}
+use Rattle.laws.proofs.Iter.{iter-keeps}
 use Rattle.laws.proofs.Bools.{either}
 use Rattle.laws.proofs.Pick.{pick-ind, never}
 use Rattle.lines.specs.Line.{hexPart}

@@ -9,7 +9,8 @@ use lib.Dec.{eqb}
 use lib.ListN.{length, getD, take, drop, length-take, length-drop, length-append, take-append-drop}
 use lib.Seq.{take-add, take-at, drop-at, take-take, take-length, length-take-le}
 use borrow.Author.Tests.{eq-eqb, ne-eqb, eqb-true}
-use Rattle.laws.specs.Iter.{iter, iter-add, iter-cons, iter-fixed}
+use Rattle.laws.specs.Iter.{iter}
+use Rattle.laws.proofs.Iter.{iter-add, iter-cons, iter-fixed}
 use Rattle.laws.proofs.Bools.{either, both-left, both-right}
 use Rattle.laws.proofs.Pick.{never}
 use Rattle.salvaging.specs.Kept.{acceptedOf, startsReset, sameBy, sameLine, sameLines, earlier, later, doubled, halved, unrepeated, salvaged}
