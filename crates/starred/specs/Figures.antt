@@ -14,7 +14,6 @@ use Rattle.sensor.specs.Shade.{shadeOf}
 use Rattle.timing.specs.Timing.{totalOf, writtenAt}
 use Rattle.tiles.specs.Tiles.{putAt}
 use Rattle.laws.specs.Lists.{packed}
-use Rattle.timing.specs.Bulk.{doneBy}
 
 -- a row: what the definitions give, and what the paper says
 pub record Figure : Type 0 where
@@ -103,11 +102,6 @@ table =
     ∷ number (firstByte (registers 1 0x80 0x00 0x00 0) 1978) 0x7F
     -- Not at 2,233
     ∷ number (firstByte (registers 1 0x00 0x00 0x00 0) 2233) 0xFF
-    -- nor is any other pixel of the picture done by then
-    ∷ number (doneBy (registers 1 0x00 0x00 0x00 0) 2233) 0
-    ∷ number (doneBy (registers 1 0x00 0x00 0x00 0) 2234) 1
-    ∷ number (doneBy (registers 1 0x80 0x00 0x00 0) 1977) 0
-    ∷ number (doneBy (registers 1 0x80 0x00 0x00 0) 1978) 1
     -- Step 1: 0 to 48, 126 to 127, 129 to 128, 130 to 129, 255 to 207
     ∷ signed (adaptedZ 0) (pos 48)
     ∷ signed (adaptedZ 126) (pos 127)

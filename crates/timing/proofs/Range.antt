@@ -2,17 +2,16 @@
 use mathlib.Core.Path.{_≡_, refl, sym, ap, _∙_}
 use mathlib.Core.Bool.{Bool, true, false, not, and-false, and-not-self}
 use mathlib.Core.List.{List}
-use Prim.Native.Nat.{ℕ, zero, suc, _+_, _-_, _*_, _/_, _%_, _<_, _≤_, min}
+use Prim.Native.Nat.{ℕ, suc, _+_, _-_, _*_, _/_, _%_, _<_, _≤_}
 use native.Mathlib.Omega.{arith}
-use lib.Dec.{leb, ltb, eqb}
+use lib.Dec.{eqb}
 use borrow.Author.Tests.{eqb-true, lt-ltb, le-ltb, le-leb, lt-leb, eq-eqb, ne-eqb}
 use Rattle.laws.specs.Pick.{pick}
 use Rattle.laws.proofs.Order.{split}
-use Rattle.lighting.specs.Taken.{exposureOf}
 use Rattle.timing.specs.Timing.{nSet, totalOf, readingFrom, rowsRead, firstRow, due, candidate, rowOf, putPixel, writtenAt}
 use Rattle.tiles.specs.Bulk.{putNth, pixels}
 use Rattle.tiles.proofs.Run.{pixels-suc}
-use Rattle.timing.specs.Bulk.{pictureFrom, doneBy}
+use Rattle.timing.specs.Aside.{pictureFrom, doneBy}
 use Rattle.laws.proofs.Bools.{both-left}
 
 -- ---- how many are done

@@ -2,4 +2,4 @@
 pub mod Lent
 pub mod Registers
 pub mod Timing
-pub mod Bulk
+pub mod Aside

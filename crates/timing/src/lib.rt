@@ -12,7 +12,7 @@ ghost use Rattle.tiles.specs.Bulk.{pixels};
 ghost use Rattle.timing.specs.Lent.{banksAllowed, romAllowed, ramAllowed};
 ghost use Rattle.timing.specs.Registers.{allZero};
 ghost use Rattle.timing.specs.Timing.{clocks, totalOf};
-ghost use Rattle.timing.specs.Bulk.{pictureFrom, doneBy};
+ghost use Rattle.timing.specs.Aside.{pictureFrom, doneBy, sumOf};
 
 // Image and frame store: 128 * 128 bytes.
 pub const FRAME: usize = 16384;

@@ -1,6 +1,4 @@
 -- `timing::banks_allowed` meets its contract: its tests are the definition's, in order. Assumes nothing.
-use mathlib.Core.Path.{refl}
-use Prim.Native.Nat.{_/_, _%_}
 use borrow.Author.Needs.{needs}
 use borrow.Author.Tests.{eq-eqb, ne-eqb, le-leb, lt-leb}
 use Rattle.timing.specs.Lent.{banksAllowed}

@@ -3,7 +3,7 @@ use native.Mathlib.Omega.{arith}
 use borrow.Author.Needs.{needs}
 use borrow.Author.Tests.{eq-eqb, ne-eqb}
 use Rattle.timing.specs.Timing.{readingFrom}
-use Rattle.timing.specs.Bulk.{pictureFrom}
+use Rattle.timing.specs.Aside.{pictureFrom}
 use Rattle.timing.proofs.picture_from.Statement.{statement}
 use Rattle.timing.proofs.picture_from.Tie as tie
 

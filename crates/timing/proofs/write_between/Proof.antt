@@ -1,6 +1,6 @@
 -- `timing::write_between` meets its contract: the range is what is done after, less what is done before. Assumes nothing.
 use borrow.Author.Needs.{needs}
-use Rattle.timing.specs.Bulk.{doneBy}
+use Rattle.timing.specs.Aside.{doneBy}
 use Rattle.timing.proofs.write_between.Statement.{statement}
 use Rattle.timing.proofs.write_between.Tie as tie
 
