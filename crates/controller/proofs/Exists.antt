@@ -1,23 +1,14 @@
 -- Laws of the state records that can exist: the tests one by one. Assumes nothing.
-use mathlib.Core.Path.{_≡_, refl}
-use mathlib.Core.Bool.{Bool, true, false, not, _&&_, _||_}
-use Prim.Native.Nat.{ℕ, _<_}
-use native.Mathlib.Omega.{arith}
+use mathlib.Core.Path.{_≡_}
+use mathlib.Core.Bool.{true, false, not, _&&_, _||_}
+use Prim.Native.Nat.{_<_}
 use lib.Dec.{leb, ltb}
 use lib.ListN.{getD}
-use borrow.Author.Tests.{leb-false, not-false}
+use borrow.Author.Tests.{leb-false}
+use Rattle.laws.proofs.Bools.{neither-left, neither-right}
 use Rattle.controller.specs.declared.Controller.{Controller}
 use Rattle.timing.specs.Timing.{totalOf}
 use Rattle.controller.specs.State.{started, leftOver, wrongCapture, cantExist}
-
--- neither of two tests
-pub neither-left : (a b : Bool) → (a || b) ≡ false → a ≡ false
-neither-left true b h = h
-neither-left false b h = refl
-
-pub neither-right : (a b : Bool) → (a || b) ≡ false → b ≡ false
-neither-right true b h = let z : _≡_ {A = ℕ} 0 1 = cc in absurd (omega arith)
-neither-right false b h = h
 
 -- none of the tests by which a state can't exist
 pub record Exists (c : Controller) : Type 0 where
@@ -77,7 +68,3 @@ held-parts c e h =
 -- a held capture that can exist is below its total
 pub before-total : (c : Controller) → cantExist c ≡ false → c .held ≡ true → c .elapsed .0 < totalOf (c .taken)
 before-total c e h = leb-false _ _ (held-parts c e h .going)
-
--- where register 0 has bit 0 set, a capture is held
-pub started-held : (c : Controller) → cantExist c ≡ false → started (c .registers) ≡ true → c .held ≡ true
-started-held c e h = not-false (c .held) (simp h at (exists-parts c e .holds))

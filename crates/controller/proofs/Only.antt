@@ -4,7 +4,6 @@ use mathlib.Core.Bool.{Bool, true, false}
 use mathlib.Core.List.{List}
 use Prim.Native.Nat.{ℕ, zero, suc}
 use native.Mathlib.Omega.{arith}
-use Rattle.timing.specs.declared.Cycles.{Cycles}
 use Rattle.controller.specs.declared.Refusal.{Refusal}
 use Rattle.controller.specs.declared.Refusal.the-variants.{State, Rom, Ram, Frame, Address, Line, Room, File, Choice, Held, NotHeld, Script}
 use Rattle.controller.specs.declared.ReadAnswer.{ReadAnswer}
@@ -18,7 +17,7 @@ use Rattle.controller.specs.declared.Element.the-variants as elements
 use Rattle.controller.specs.declared.ReadDone.{ReadDone}
 use Rattle.controller.specs.declared.WriteDone.{WriteDone}
 use Rattle.controller.specs.declared.TickDone.{TickDone}
-use Rattle.controller.specs.Outcome.{Outcome, Inspection, numberOf, readNumber, readValue, readOutcome, writeNumber, writeOutcome, tickNumber, tickValue, tickOutcome, inspection}
+use Rattle.controller.specs.Outcome.{numberOf, readNumber, readValue, readOutcome, writeNumber, writeOutcome, tickNumber, tickValue, tickOutcome, inspection}
 
 -- the refusal of a number
 refusalOf : ℕ → Refusal

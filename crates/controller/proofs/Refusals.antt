@@ -21,7 +21,6 @@ use Rattle.controller.specs.declared.Refusal.{Refusal}
 use Rattle.controller.specs.declared.Verdict.{Verdict}
 use Rattle.controller.specs.declared.Verdict.the-variants as verdicts
 use Rattle.timing.specs.Lent.{frameAllowed}
-use Rattle.controller.specs.State.{cantExist}
 use Rattle.controller.specs.Outcome.{Outcome, Inspection, numberOf, verdictNumber}
 use Rattle.controller.specs.Table.{Row, lowest, judged}
 use Rattle.controller.specs.Picture.{Afresh, afresh, pictureRows, pictureMeans}
@@ -180,10 +179,6 @@ picture-refuses image regs out =
 module _ {O : Type 0} {rows : List Row} {number : O → ℕ} {refused : ℕ → O} {o done : O} (r : Refuses rows number refused o done) where
   pub not-one : rowHolds 1 rows ≡ false → number o ≡ 1 → ⊥
   not-one f e = never (r .exact 0 .0 e .holds) f
-
-pub inspect-fits : (c : Controller) → lowest (inspectRows c) ≡ 0 → cantExist c ≡ false
-unfolding inspectRows
-inspect-fits c e = first-fails _ _ e .0
 
 pub picture-fits : (image : List ℕ) → lowest (pictureRows image) ≡ 0 → frameAllowed (length image) ≡ true
 unfolding pictureRows

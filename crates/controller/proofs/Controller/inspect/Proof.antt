@@ -1,5 +1,5 @@
 -- `controller::Controller::inspect` meets its contract: it is judged, and then the first reversed element is named. Assumes nothing.
-use mathlib.Core.Path.{_≡_, sym, ap, _∙_}
+use mathlib.Core.Path.{_∙_}
 use borrow.Author.Tests.{lt-ltb, le-ltb}
 use Rattle.controller.specs.Inspect.{inspectRows}
 use Rattle.controller.proofs.First.{named-level, named-at}

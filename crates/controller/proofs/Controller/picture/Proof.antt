@@ -1,6 +1,6 @@
 -- `controller::Controller::picture` meets its contract: it is judged, and then the image is lit and the picture filled from its light.
 -- Assumes nothing.
-use mathlib.Core.Path.{_≡_, ap, _∙_}
+use mathlib.Core.Path.{ap, _∙_}
 use mathlib.Core.List.{List}
 use borrow.Author.Needs.{needs}
 use Rattle.lighting.specs.declared.Setting.{Setting}

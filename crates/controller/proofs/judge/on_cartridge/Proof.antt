@@ -1,6 +1,6 @@
 -- `controller::judge::on_cartridge` meets its contract. Assumes nothing.
 use Rattle.controller.specs.Table.{onCartridge}
-use borrow.Author.Tests.{eq-eqb, ne-eqb, lt-ltb, le-ltb, lt-leb, le-leb}
+use borrow.Author.Tests.{lt-ltb, le-ltb, lt-leb, le-leb}
 use Rattle.controller.proofs.judge.on_cartridge.Statement.{statement}
 use Rattle.controller.proofs.judge.on_cartridge.Tie as tie
 
