@@ -9,7 +9,6 @@ use Rattle.laws.specs.Pick.{pick}
 use Rattle.laws.proofs.Bools.{not-fails}
 use Rattle.lighting.specs.Light.{byteAt}
 use Rattle.controller.specs.declared.Controller.{Controller}
-use Rattle.controller.specs.declared.Verdict.the-variants as verdicts
 use Rattle.timing.specs.Lent.{ramAllowed, frameAllowed}
 use Rattle.controller.specs.State.{cantExist}
 use Rattle.capture.specs.Capture.{ticks, from}

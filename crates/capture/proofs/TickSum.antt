@@ -1,43 +1,29 @@
 -- A tick of a + b cycles is a tick of a, and then one of b: the counts add up. Assumes nothing.
-use mathlib.Core.Path.{_≡_, refl, sym, ap, _∙_}
-use mathlib.Core.Bool.{Bool, true, false, _&&_}
+use mathlib.Core.Path.{_≡_, refl, ap, _∙_}
+use mathlib.Core.Bool.{true, false}
 use mathlib.Core.List.{List}
-use Prim.Native.Nat.{ℕ, zero, suc, _+_, _<_, _≤_}
+use Prim.Native.Nat.{ℕ, zero, suc, _+_, _<_}
 use native.Mathlib.Nat.{add-zero, add-assoc}
 use native.Mathlib.Omega.{arith}
 use lib.ListN.{length}
-use Rattle.laws.specs.Pick.{pick}
-use Rattle.laws.specs.Iter.{iter, iter-add, iter-maps, iter-keeps}
+use Rattle.laws.specs.Iter.{iter}
+use Rattle.laws.proofs.Iter.{iter-add, iter-maps, iter-keeps}
 use Rattle.laws.proofs.Order.{split}
 use Rattle.lighting.specs.Light.{byteAt}
 use Rattle.controller.specs.declared.Controller.{Controller}
 use Rattle.timing.specs.Timing.{totalOf, putPixel, writtenAt}
 use Rattle.controller.specs.State.{cantExist, started}
-use Rattle.timing.specs.Lent.{ramAllowed, frameAllowed}
 use Rattle.controller.specs.Outcome.{Outcome, outcome}
-use Rattle.capture.specs.Capture.{Ticking, moved, ended, running, runs, cycle, ticks, from}
+use Rattle.capture.specs.Capture.{Ticking, running, runs, cycle, ticks, from}
 use Rattle.capture.specs.Calls.{tickRows, tickMeans, ticked}
-use Rattle.laws.proofs.Bools.{both-left}
+use Rattle.laws.proofs.Pick.{ap-pick, pick-one}
+use Rattle.laws.proofs.Bools.{either, both-left}
 use Rattle.controller.proofs.Exists.{before-total}
 use Rattle.capture.proofs.Exists.{exists-moved, exists-ended}
 use Rattle.tiles.proofs.Run.{put-length}
 use Rattle.capture.proofs.Ticks.{rest, cycle-on, cycle-last}
 use Rattle.capture.proofs.Refusals.{tick-refuses, tick-fits, tick-none}
 use Rattle.controller.specs.Table.{lowest}
-
--- a function of a pick is a pick of its values
-pub ap-pick : {X Y : Type 0} (f : X → Y) (b : Bool) (x y : X) → f (pick b x y) ≡ pick b (f x) (f y)
-ap-pick f true x y = refl
-ap-pick f false x y = refl
-
-pick-same : {X : Type 0} (b : Bool) (x : X) → pick b x x ≡ x
-pick-same true x = refl
-pick-same false x = refl
-
--- a test passes or fails
-either : {X : Type 0} (b : Bool) → (b ≡ true → X) → (b ≡ false → X) → X
-either true f g = f refl
-either false f g = g refl
 
 -- ---- cycles, one after the other
 
@@ -65,7 +51,7 @@ ticks-sum lit a b c ram =
 
 written-length : (lit : ℕ → ℕ → ℕ) (regs : List ℕ) (e : ℕ) (ram : List ℕ) → length (writtenAt lit regs e ram) ≡ length ram
 unfolding writtenAt putPixel
-written-length lit regs e ram = simp (ap-pick (λ (l : List ℕ). length l), put-length, pick-same)
+written-length lit regs e ram = simp (ap-pick (λ (l : List ℕ). length l), put-length, pick-one)
 
 -- the state can exist, and the RAM has so many bytes
 pub record Kept (n : ℕ) (w : Ticking) : Type 0 where

@@ -1,24 +1,23 @@
 -- Laws of many cycles: idle ones change nothing, and those of a capture are a range of pixels and a sum. Assumes nothing.
 use mathlib.Core.Path.{_≡_, refl, sym, ap, _∙_}
-use mathlib.Core.Bool.{Bool, true, false, _&&_, and-false}
+use mathlib.Core.Bool.{true, false}
 use mathlib.Core.List.{List}
-use Prim.Native.Nat.{ℕ, zero, suc, _+_, _-_, _<_, _≤_}
+use Prim.Native.Nat.{ℕ, suc, _+_, _-_, _<_, _≤_}
 use native.Mathlib.Nat.{add-zero, add-suc}
 use native.Mathlib.Numerals.{add-one}
 use native.Mathlib.Omega.{arith}
-use lib.Dec.{eqb}
 use borrow.Author.Tests.{eq-eqb, ne-eqb}
-use Rattle.laws.specs.Iter.{iter, iter-fixed, iter-form, iter-phase}
+use Rattle.laws.specs.Iter.{iter}
+use Rattle.laws.proofs.Iter.{iter-fixed, iter-form, iter-phase}
 use Rattle.controller.specs.declared.Controller.{Controller}
 use Rattle.timing.specs.Timing.{totalOf, writtenAt}
-use Rattle.controller.specs.State.{started}
 use Rattle.capture.specs.Capture.{Ticking, moved, ended, running, runs, cycle, ticks, from}
 use Rattle.controller.specs.Outcome.{outcome}
 use Rattle.capture.specs.Calls.{ticked}
 use Rattle.tiles.specs.Bulk.{pixels}
-use Rattle.timing.specs.Bulk.{doneBy}
+use Rattle.timing.specs.Aside.{doneBy}
 use Rattle.tiles.proofs.Run.{pixels-none}
-use Rattle.timing.proofs.Range.{pixels-step, done-mono, done-all}
+use Rattle.timing.proofs.Range.{pixels-step, done-mono}
 
 -- ---- idle cycles
 
@@ -33,9 +32,6 @@ idle lit w n h = iter-fixed (cycle lit) w (rest lit w h) n
 -- none is held; or register 0 has bit 0 clear
 pub not-held : (c : Controller) → c .held ≡ false → running c ≡ false
 not-held c h = simp h
-
-pub not-started : (c : Controller) → started (c .registers) ≡ false → running c ≡ false
-not-started c h = simp (h, and-false)
 
 -- ---- a cycle of a running capture: it goes on, or it is the last
 
@@ -94,10 +90,6 @@ module _ (lit : ℕ → ℕ → ℕ) (c : Controller) (ram : List ℕ) (runs : r
       ap (iter (cycle lit) n) (sym form-zero)
       ∙ iter-phase (cycle lit) form final (totalOf (c .taken) - c .elapsed .0) n (λ m l. form-suc m (omega arith)) (omega arith) (form-last _ (omega arith)) past
       ∙ idle lit final (n - (totalOf (c .taken) - c .elapsed .0)) (not-held (ended c) refl)
-
-  -- as it ends, all of the picture is done
-  pub final-picture : final .ram ≡ pixels lit (c .taken) (doneBy (c .taken) (c .elapsed .0)) 14336 ram
-  final-picture = rw (done-all (c .taken))
 
   -- the same as outcomes: what was put in hand, with what it was found to be
   pub going-outcome : (store : List ℕ) (n : ℕ) (s : Controller) (r : List ℕ) → c .elapsed .0 + n < totalOf (c .taken) → s ≡ moved c (c .elapsed .0 + n)

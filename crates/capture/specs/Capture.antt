@@ -10,47 +10,31 @@ use Rattle.controller.specs.declared.Controller.{Controller}
 use Rattle.timing.specs.Timing.{totalOf, writtenAt}
 use Rattle.controller.specs.State.{started, noRegisters, oneMore}
 
--- A start: registers 1 to 53 and the new register 0 are taken; elapsed is 0; one more capture has started since reset
-unfoldable pub begun : Controller → ℕ → Controller
-begun c v = record {
+-- the state with these registers, this capture (held or not, taken registers, elapsed cycles) and these counts; its controls stay
+abbrev pub captures : Controller → List ℕ → Bool → List ℕ → ℕ → ℕ → ℕ → Controller
+captures c registers held taken elapsed started ended = record {
   enabled = c .enabled;
   bank = c .bank;
   select = c .select;
-  registers = set (c .registers) 0 v;
-  held = true;
-  taken = set (c .registers) 0 v;
-  elapsed = record { 0 = 0 };
-  started = oneMore (c .started);
-  ended = c .ended;
+  registers = registers;
+  held = held;
+  taken = taken;
+  elapsed = record { 0 = elapsed };
+  started = started;
+  ended = ended;
 }
+
+-- A start: registers 1 to 53 and the new register 0 are taken; elapsed is 0; one more capture has started since reset
+unfoldable pub begun : Controller → ℕ → Controller
+begun c v = captures c (set (c .registers) 0 v) true (set (c .registers) 0 v) 0 (oneMore (c .started)) (c .ended)
 
 -- the state at a number of elapsed cycles
 unfoldable pub moved : Controller → ℕ → Controller
-moved c e = record {
-  enabled = c .enabled;
-  bank = c .bank;
-  select = c .select;
-  registers = c .registers;
-  held = c .held;
-  taken = c .taken;
-  elapsed = record { 0 = e };
-  started = c .started;
-  ended = c .ended;
-}
+moved c e = captures c (c .registers) (c .held) (c .taken) e (c .started) (c .ended)
 
 -- At its total, register 0 bit 0 clears (bits 1 and 2 stay), the capture is no longer held, and elapsed and taken registers become 0; one more has reached its end
 unfoldable pub ended : Controller → Controller
-ended c = record {
-  enabled = c .enabled;
-  bank = c .bank;
-  select = c .select;
-  registers = set (c .registers) 0 (getD (c .registers) 0 0 / 2 * 2);
-  held = false;
-  taken = noRegisters;
-  elapsed = record { 0 = 0 };
-  started = c .started;
-  ended = oneMore (c .ended);
-}
+ended c = captures c (set (c .registers) 0 (getD (c .registers) 0 0 / 2 * 2)) false noRegisters 0 (c .started) (oneMore (c .ended))
 
 -- the state, the RAM, and how many cycles fell while a capture was running
 pub record Ticking : Type 0 where

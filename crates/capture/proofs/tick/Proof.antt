@@ -1,7 +1,5 @@
 -- `capture::tick` meets its contract: it is judged, and then done. Assumes nothing.
 use mathlib.Core.Path.{_≡_, sym, ap, _∙_}
-use mathlib.Core.Bool.{true, false}
-use lib.ListN.{length}
 use Rattle.laws.proofs.Bools.{left-out, let-in, both-left}
 use Rattle.lighting.specs.Light.{byteAt}
 use Rattle.capture.specs.Calls.{ticked, tickMeans}
