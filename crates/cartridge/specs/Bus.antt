@@ -39,58 +39,32 @@ romRead c rom a = pick (ltb a 0x4000) (getD rom a 0) (getD rom (romPlace c rom a
 unfoldable pub byteRead : Controller → List ℕ → List ℕ → ℕ → ℕ
 byteRead c rom ram a = pick (ltb a 0x8000) (romRead c rom a) (pick (registersOn c) (registerRead c a) (ramRead c ram a))
 
--- the state with one thing changed
-unfoldable pub withEnabled : Controller → Bool → Controller
-withEnabled c b = record {
-  enabled = b;
-  bank = c .bank;
-  select = c .select;
-  registers = c .registers;
+-- the state with this write enable, ROM bank, select and registers; its capture and its counts stay
+abbrev pub controls : Controller → Bool → ℕ → ℕ → List ℕ → Controller
+controls c enabled bank select registers = record {
+  enabled = enabled;
+  bank = bank;
+  select = select;
+  registers = registers;
   held = c .held;
   taken = c .taken;
   elapsed = c .elapsed;
   started = c .started;
   ended = c .ended;
 }
+
+-- with one of them changed
+unfoldable pub withEnabled : Controller → Bool → Controller
+withEnabled c b = controls c b (c .bank) (c .select) (c .registers)
 
 unfoldable pub withBank : Controller → ℕ → Controller
-withBank c n = record {
-  enabled = c .enabled;
-  bank = n;
-  select = c .select;
-  registers = c .registers;
-  held = c .held;
-  taken = c .taken;
-  elapsed = c .elapsed;
-  started = c .started;
-  ended = c .ended;
-}
+withBank c n = controls c (c .enabled) n (c .select) (c .registers)
 
 unfoldable pub withSelect : Controller → ℕ → Controller
-withSelect c n = record {
-  enabled = c .enabled;
-  bank = c .bank;
-  select = n;
-  registers = c .registers;
-  held = c .held;
-  taken = c .taken;
-  elapsed = c .elapsed;
-  started = c .started;
-  ended = c .ended;
-}
+withSelect c n = controls c (c .enabled) (c .bank) n (c .registers)
 
 unfoldable pub withRegister : Controller → ℕ → ℕ → Controller
-withRegister c i v = record {
-  enabled = c .enabled;
-  bank = c .bank;
-  select = c .select;
-  registers = set (c .registers) i v;
-  held = c .held;
-  taken = c .taken;
-  elapsed = c .elapsed;
-  started = c .started;
-  ended = c .ended;
-}
+withRegister c i v = controls c (c .enabled) (c .bank) (c .select) (set (c .registers) i v)
 
 -- Write 0000-1FFF: 0A enables, 00 disables RAM writing; other values change nothing (house rule)
 abbrev pub enable : Controller → ℕ → Controller

@@ -1,6 +1,6 @@
 -- `cartridge::control_write` meets its contract. Assumes nothing.
 use Rattle.cartridge.specs.Bus.{controlWritten, withBank, withSelect}
-use borrow.Author.Tests.{eq-eqb, ne-eqb, lt-ltb, le-ltb, lt-leb, le-leb}
+use borrow.Author.Tests.{lt-ltb, le-ltb}
 use borrow.Author.Needs.{needs}
 use Rattle.cartridge.proofs.control_write.Statement.{statement}
 use Rattle.cartridge.proofs.control_write.Tie as tie

@@ -1,6 +1,6 @@
 -- `cartridge::enable_write` meets its contract. Assumes nothing.
 use Rattle.cartridge.specs.Bus.{withEnabled}
-use borrow.Author.Tests.{eq-eqb, ne-eqb, lt-ltb, le-ltb, lt-leb, le-leb}
+use borrow.Author.Tests.{eq-eqb, ne-eqb}
 use Rattle.cartridge.proofs.enable_write.Statement.{statement}
 use Rattle.cartridge.proofs.enable_write.Tie as tie
 

@@ -1,8 +1,7 @@
 -- `cartridge::register_write` meets its contract. Assumes nothing.
 use mathlib.Core.Path.{refl}
-use mathlib.Core.Path.{sym, _∙_}
 use Rattle.cartridge.specs.Bus.{registerWritten, storeWritten, withRegister}
-use borrow.Author.Tests.{eq-eqb, ne-eqb, lt-ltb, le-ltb, lt-leb, le-leb}
+use borrow.Author.Tests.{eq-eqb, ne-eqb, lt-ltb, le-ltb}
 use borrow.Author.Needs.{needs}
 use Rattle.cartridge.proofs.register_write.Statement.{statement}
 use Rattle.cartridge.proofs.register_write.Tie as tie
