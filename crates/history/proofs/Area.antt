@@ -13,7 +13,7 @@ use Rattle.laws.proofs.Packed.{packed-byte}
 use Rattle.placing.specs.Placing.{pixelsOf, shadeOf, shadeAt, placedByte, placedIn}
 use Rattle.placing.proofs.Placed.{placed-byte}
 use Rattle.placing.proofs.Left.{left-outside, left-inside}
-use Rattle.history.specs.Track.{inArea}
+use Rattle.history.specs.Seen.{inArea}
 
 -- each byte of a file in the area is a byte
 pub area-small : (pixels : List ℕ) (i : ℕ) → placedByte pixels i < 256

@@ -1,6 +1,6 @@
 -- A choice in a history: what it leaves alone, which registers the next start takes, and the bus writes that it amounts to. Assumes nothing.
 use mathlib.Core.Path.{_≡_, refl, sym, ap, _∙_}
-use mathlib.Core.Bool.{Bool, true, false}
+use mathlib.Core.Bool.{Bool, true, false, not}
 use mathlib.Core.List.{List, [], _∷_, _++_}
 use Prim.Native.Nat.{ℕ, zero, suc, _+_, _/_, _%_, _<_, _≤_}
 use native.Mathlib.Omega.{arith}
@@ -15,27 +15,25 @@ use Rattle.cartridge.specs.Bus.{byteWritten, controlWritten, registerWritten, s
 use Rattle.controller.proofs.Exists.{exists-parts}
 use Rattle.cartridge.proofs.Written.{written-register}
 use Rattle.desk.specs.declared.choice.Exposure.{Exposure}
-use Rattle.desk.specs.Choice.{stepsOf, valueOf, stored, registersChosen, withRegisters}
+use Rattle.desk.specs.Choice.{beyond, stepsOf, valueOf, stored, registersChosen, withRegisters}
 use Rattle.desk.proofs.Registers.{stored-before}
 use Rattle.desk.proofs.Choices.{choose-none, choose-refuses}
 use Rattle.desk.proofs.Level.{exists-with, level-after}
 use Rattle.history.specs.History.{Call, write, inspect, choose, World, fresh, leaves, answers, matrix, after}
-use Rattle.history.specs.Track.{Track, choiceAccepted, starts, ends, lands, registersAt, storing, next, told}
+use Rattle.history.specs.Seen.{startSeen, endSeen, goesIn, landsSeen}
+use Rattle.history.proofs.Track.{Track, starts, ends, registersAt, told}
 use Rattle.history.specs.Writes.{writesFrom, choiceWrites}
 use Rattle.history.proofs.Exists.{exists-select, exists-register}
-use Rattle.history.proofs.Follows.{write-leaves, choose-leaves}
-use Rattle.history.proofs.Goes.{after-append}
+use Rattle.history.proofs.Follows.{Moment, at-reset, moment-next, moment-after, write-leaves, choose-leaves}
+use Rattle.history.proofs.Goes.{start-of, after-append}
+use Rattle.history.proofs.Shows.{start-same, end-same}
 use Rattle.history.proofs.Reachable.{sound, reachable}
 
--- a choice starts nothing, ends nothing and lands nowhere
-pub record Quiet (t : Track) (k : Call) : Type 0 where
-  pub no-start : starts t k ≡ false
-  pub no-end : ends t k ≡ false
-  pub no-landing : (p : ℕ) → lands t k p ≡ false
-
-pub choice-quiet : (t : Track) (light level : ℕ) (plain : Bool) (exposure : Exposure) → Quiet t (choose light level plain exposure)
-unfolding starts ends lands
-choice-quiet t light level plain exposure = record { no-start = refl; no-end = refl; no-landing = λ p. refl }
+-- a call that is seen to start nothing, to end nothing and to land nowhere
+pub record Quiet (w : World) (k : Call) : Type 0 where
+  pub no-start : startSeen w k ≡ false
+  pub no-end : endSeen w k ≡ false
+  pub no-landing : (p : ℕ) → landsSeen w k p ≡ false
 
 -- a world with nothing changed but the registers
 abbrev withAll : World → List ℕ → World
@@ -45,25 +43,41 @@ module _ (ram store : List ℕ) (cs : List Call) (light level : ℕ) (plain : Bo
   abbrev now : World
   now = after (fresh ram store) cs
 
+  abbrev choice : Call
+  choice = choose light level plain exposure
+
+  m : Moment (told ram store cs) now
+  m = moment-after cs _ _ (at-reset ram store)
+
+  -- Quiet: after any calls from reset, a choice starts nothing, ends nothing and lands nowhere
+  pub choice-quiet : Quiet (after (fresh ram store) cs) (choose light level plain exposure)
+  unfolding starts ends landsSeen goesIn
+  choice-quiet = record { no-start = sym (start-same _ _ m choice); no-end = sym (end-same _ _ m choice); no-landing = λ p. refl }
+
   -- Chosen: after any calls from reset, a choice of the table changes the registers of the state and nothing else, and any other changes nothing
   pub choice-leaves : leaves (after (fresh ram store) cs) (choose light level plain exposure)
-      ≡ pick (choiceAccepted light level) (withAll (after (fresh ram store) cs) (registersChosen (after (fresh ram store) cs .state .registers) light level plain exposure)) (after (fresh ram store) cs)
-  unfolding choiceAccepted
+      ≡ pick (not (beyond light level)) (withAll (after (fresh ram store) cs) (registersChosen (after (fresh ram store) cs .state .registers) light level plain exposure)) (after (fresh ram store) cs)
   choice-leaves = choose-leaves now light level plain exposure (reachable ram store cs)
 
   -- Taken next: a start right after it takes the registers that it wrote, with the new register 0
-  pub choice-taken : choiceAccepted light level ≡ true → (image : List ℕ) (a v : ℕ)
-      → registersAt (next (told ram store cs) (choose light level plain exposure)) (write image a v) ≡ set (registersChosen (told ram store cs .registers) light level plain exposure) 0 (v % 8)
-  unfolding registersAt next storing
-  choice-taken ok image a v = rw ok
+  pub choice-taken : beyond light level ≡ false → (image : List ℕ) (a v : ℕ) → startSeen (leaves (after (fresh ram store) cs) (choose light level plain exposure)) (write image a v) ≡ true
+      → leaves (leaves (after (fresh ram store) cs) (choose light level plain exposure)) (write image a v) .state .taken ≡ set (registersChosen (after (fresh ram store) cs .state .registers) light level plain exposure) 0 (v % 8)
+  unfolding registersAt withRegisters
+  choice-taken ok image a v h =
+      let n = moment-next _ _ m choice in
+      sym (ap (λ (u : Track). u .taken) (moment-next _ _ n (write image a v) .told .same))
+      ∙ start-of _ (write image a v) (start-same _ _ n (write image a v) ∙ h) .taken
+      ∙ ap (λ (u : Track). set (u .registers) 0 (v % 8)) (n .told .same)
+      ∙ ap (λ (w : World). set (w .state .registers) 0 (v % 8)) choice-leaves
+      ∙ rw ok
 
   -- Level: an inspection right after it finds no reversed element
-  pub choice-level : choiceAccepted light level ≡ true
+  pub choice-level : beyond light level ≡ false
       → answers (leaves (after (fresh ram store) cs) (choose light level plain exposure)) inspect ≡ matrix (record { number = 0; found = false; row = 0; column = 0 })
-  unfolding choiceAccepted answers leaves
+  unfolding answers leaves
   choice-level ok =
       let s = sound ram store cs in
-      let none = eqb-true _ _ (choose-none (now .state) light level (s .exists) ∙ ok) in
+      let none = eqb-true _ _ (choose-none (now .state) light level (s .exists) ∙ rw ok) in
       ap matrix (level-after light level plain exposure (now .state) (s .wide) (choose-refuses (now .state) light level plain exposure .numbered ∙ none))
 
 -- ---- as bus writes
@@ -112,9 +126,9 @@ module _ (w : World) (image : List ℕ) (fits : Lends w image) where
         ∙ register-more on (stored (c .registers) from f n) (stored-before (c .registers) from f n 0 low) (from + n) (f n) (omega arith) (omega arith)
 
   -- Played: the bus writes that a choice amounts to leave what the choice leaves
-  pub choice-writes : (light level : ℕ) (plain : Bool) (exposure : Exposure) → cantExist (w .state) ≡ false → choiceAccepted light level ≡ true
+  pub choice-writes : (light level : ℕ) (plain : Bool) (exposure : Exposure) → cantExist (w .state) ≡ false → beyond light level ≡ false
       → after w (choiceWrites image (w .state .select) light level plain exposure) ≡ leaves w (choose light level plain exposure)
-  unfolding after choiceWrites registersChosen choiceAccepted withSelect withRegister withRegisters
+  unfolding after choiceWrites registersChosen withSelect withRegister withRegisters
   choice-writes light level plain exposure e ok =
       let c = w .state in
       let n = stepsOf exposure in

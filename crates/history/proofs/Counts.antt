@@ -1,5 +1,5 @@
--- The two counts of the state are what the calls alone tell: captures started, and captures that reached their end, since the last reset. Assumes nothing.
-use mathlib.Core.Path.{_≡_, refl, sym, subst, _∙_}
+-- The two counts of the state: captures started, and captures that reached their end, since the last reset. Assumes nothing.
+use mathlib.Core.Path.{_≡_, refl, sym, ap, subst, _∙_}
 use mathlib.Core.Bool.{Bool, true, false, not, _&&_}
 use mathlib.Core.List.{List, [], _∷_}
 use Prim.Native.Nat.{ℕ, _+_, _%_}
@@ -24,10 +24,10 @@ use Rattle.desk.specs.declared.choice.Exposure.{Exposure}
 use Rattle.desk.specs.Choice.{beyond, withRegisters}
 use Rattle.placing.specs.Placing.{isPlate}
 use Rattle.history.specs.History.{Call, reset, read, write, tick, inspect, choose, place, World, fresh, leaves, after}
-use Rattle.history.specs.Track.{Track, atReset, writeAccepted, toRegisters, ends, starts, next, seen}
-use Rattle.history.specs.Since.{isReset}
-use Rattle.history.specs.Counts.{tally, startsTold, endsTold}
+use Rattle.history.specs.Seen.{isReset, startSeen, endSeen, tally, startsSeen, endsSeen}
+use Rattle.history.proofs.Track.{Track, writeAccepted, toRegisters, ends, starts, next, seen}
 use Rattle.history.proofs.Follows.{worldOf, write-leaves, choose-leaves, place-leaves, tick-told, Moment, at-reset, moment-next}
+use Rattle.history.proofs.Shows.{start-same, end-same}
 
 -- a state's two counts
 pub record Counts (s e : ℕ) (c : Controller) : Type 0 where
@@ -104,10 +104,11 @@ module _ (w : World) (im : List ℕ) (own : w .state .held ≡ true → w .store
   call-counts (place file) = place-next file
 
 pub counts-next : (t : Track) (w : World) → Moment t w → (k : Call)
-    → Counts (upTo (isReset k) (starts t k) (w .state .started)) (upTo (isReset k) (ends t k) (w .state .ended)) (leaves w k .state)
+    → Counts (upTo (isReset k) (startSeen w k) (w .state .started)) (upTo (isReset k) (endSeen w k) (w .state .ended)) (leaves w k .state)
 counts-next t w m k =
-    subst (λ (u : Track). Counts (upTo (isReset k) (starts u k) (w .state .started)) (upTo (isReset k) (ends u k) (w .state .ended)) (leaves w k .state))
-    (sym (m .told .same)) (call-counts w (t .image) (m .told .own) (m .sound .exists) k)
+    rw (← start-same t w m k, ← end-same t w m k)
+    (subst (λ (u : Track). Counts (upTo (isReset k) (starts u k) (w .state .started)) (upTo (isReset k) (ends u k) (w .state .ended)) (leaves w k .state))
+    (sym (m .told .same)) (call-counts w (t .image) (m .told .own) (m .sound .exists) k))
 
 -- a count that wraps is the number modulo 65,536
 wraps : (back more : Bool) (n : ℕ) → upTo back more (n % 65536) ≡ pick back 0 (pick more (n + 1) n) % 65536
@@ -117,26 +118,26 @@ wraps false false n = refl
 
 -- along a history
 counts-after : (cs : List Call) (t : Track) (w : World) (s e : ℕ) → Moment t w → Counts (s % 65536) (e % 65536) (w .state)
-    → Counts (tally starts t cs s % 65536) (tally ends t cs e % 65536) (after w cs .state)
+    → Counts (tally startSeen w cs s % 65536) (tally endSeen w cs e % 65536) (after w cs .state)
 unfolding tally after
 counts-after [] t w s e m p = p
 counts-after (k ∷ cs) t w s e m p =
     let q = counts-next t w m k in
-    counts-after cs (next t k) (leaves w k) (pick (isReset k) 0 (pick (starts t k) (s + 1) s)) (pick (isReset k) 0 (pick (ends t k) (e + 1) e)) (moment-next t w m k)
+    counts-after cs (next t k) (leaves w k) (pick (isReset k) 0 (pick (startSeen w k) (s + 1) s)) (pick (isReset k) 0 (pick (endSeen w k) (e + 1) e)) (moment-next t w m k)
     (record {
-      started = q .started ∙ rw (p .started, wraps (isReset k) (starts t k) s);
-      ended = q .ended ∙ rw (p .ended, wraps (isReset k) (ends t k) e);
+      started = q .started ∙ ap (upTo (isReset k) (startSeen w k)) (p .started) ∙ wraps (isReset k) (startSeen w k) s;
+      ended = q .ended ∙ ap (upTo (isReset k) (endSeen w k)) (p .ended) ∙ wraps (isReset k) (endSeen w k) e;
     })
 
 module _ (ram store : List ℕ) (cs : List Call) where
-  counts : Counts (startsTold ram store cs % 65536) (endsTold ram store cs % 65536) (after (fresh ram store) cs .state)
+  counts : Counts (startsSeen ram store cs % 65536) (endsSeen ram store cs % 65536) (after (fresh ram store) cs .state)
   unfolding resetState
   counts = counts-after cs _ (fresh ram store) 0 0 (at-reset ram store) (record { started = refl; ended = refl })
 
   -- Started: after any calls from reset, `started` is the number of starts since the last reset, modulo 65,536
-  pub started-counts : after (fresh ram store) cs .state .started ≡ startsTold ram store cs % 65536
+  pub started-counts : after (fresh ram store) cs .state .started ≡ startsSeen ram store cs % 65536
   started-counts = counts .started
 
   -- Ended: and `ended` the number of captures that reached their end
-  pub ended-counts : after (fresh ram store) cs .state .ended ≡ endsTold ram store cs % 65536
+  pub ended-counts : after (fresh ram store) cs .state .ended ≡ endsSeen ram store cs % 65536
   ended-counts = counts .ended

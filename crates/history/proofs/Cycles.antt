@@ -4,8 +4,8 @@ use mathlib.Core.List.{List, [], _∷_, _++_}
 use Prim.Native.Nat.{ℕ, _+_, _<_}
 use native.Mathlib.Nat.{add-zero}
 use Rattle.history.specs.History.{Call, World, fresh, answers, countIn, after, counted}
-use Rattle.history.specs.Track.{cyclesOf, runsIn, registersAt, told}
-use Rattle.history.specs.Since.{Held, Whole}
+use Rattle.history.proofs.Track.{cyclesOf, runsIn, registersAt, told}
+use Rattle.history.proofs.Since.{Held, Whole}
 use Rattle.history.proofs.Follows.{count-next, cycles-left}
 use Rattle.history.proofs.Goes.{end-count, counted-append, moment-now, on, now-last, world-last, moment-last}
 

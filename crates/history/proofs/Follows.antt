@@ -14,7 +14,7 @@ use Rattle.laws.proofs.Order.{split}
 use Rattle.lighting.specs.Taken.{exposureOf, settingOf}
 use Rattle.lighting.specs.Light.{lightFrame, byteAt}
 use Rattle.sensor.proofs.Lit.{light-length}
-use Rattle.laws.proofs.Pick.{pick-ind}
+use Rattle.laws.proofs.Pick.{paired, pick-ind}
 use Rattle.controller.specs.declared.Controller.{Controller}
 use Rattle.timing.specs.Timing.{totalOf}
 use Rattle.controller.specs.State.{started, cantExist, resetState, oneMore}
@@ -22,31 +22,31 @@ use Rattle.capture.specs.Capture.{begun, moved, ended, Ticking, ticks, from}
 use Rattle.capture.specs.Capture as capture
 use Rattle.cartridge.specs.Bus.{Left, left, byteWritten, controlWritten, registerWritten, storeWritten, captureWritten, ramWritten, ramWritable, withBank, withRegister, withEnabled, withSelect, isStart, registersOn}
 use Rattle.controller.specs.Table.{onCartridge}
-use Rattle.timing.specs.Lent.{romAllowed, ramAllowed, frameAllowed}
+use Rattle.timing.specs.Lent.{ramAllowed, frameAllowed}
 use Rattle.controller.specs.Outcome.{Outcome}
 use Rattle.controller.specs.Table.{lowest}
 use Rattle.cartridge.specs.Calls.{readRows, readMeans, writeRows, writeMeans}
 use Rattle.capture.specs.Calls.{tickRows, tickMeans}
 use Rattle.cartridge.proofs.Refusals.{write-refuses, write-none}
-use Rattle.capture.proofs.Refusals.{tick-refuses, tick-lent}
+use Rattle.capture.proofs.Refusals.{tick-lent}
 use Rattle.controller.proofs.Refusals.{judged-ind, judged-pick}
 use Rattle.timing.proofs.Lent.{frame-lent, ram-lent, ram-inside}
-use Rattle.laws.proofs.Bools.{both-left, both-right}
+use Rattle.laws.proofs.Bools.{either, not-both, both-left, both-right}
 use Rattle.controller.proofs.Exists.{before-total}
 use Rattle.capture.proofs.Ticks.{idle, going, over}
 use Rattle.tiles.proofs.Pixels.{pixels-length}
 use Rattle.tiles.proofs.Run.{pixels-none}
 use Rattle.tiles.specs.Bulk.{pixels}
-use Rattle.timing.specs.Bulk.{doneBy}
+use Rattle.timing.specs.Aside.{doneBy}
 use Rattle.desk.specs.declared.choice.Exposure.{Exposure}
 use Rattle.desk.specs.Choice.{beyond, registersChosen, withRegisters, chooseRows, chooseMeans}
-use Rattle.desk.proofs.Choices.{choose-none, choose-refuses}
+use Rattle.desk.proofs.Choices.{choose-none}
 use Rattle.placing.specs.Placing.{isPlate, pixelsOf, placedByte, placedIn, placeRows, placeMeans}
 use Rattle.placing.proofs.Placed.{place-none, place-refuses}
 use Rattle.placing.proofs.Left.{left-length}
 use Rattle.history.specs.History.{Call, reset, read, write, tick, inspect, choose, place, World, fresh, leftBy, leaves, answers, refusalIn, countIn, after}
-use Rattle.history.specs.Track.{toRam, placeOf, inArea, lands, byteIn, Track, atReset, writeAccepted, tickAccepted, choiceAccepted, placeAccepted, cyclesOf, runsIn, ends, enabling, selecting, storing, beginning, running, ending, controlled, registered, written, next, follow, told, seen, Told}
-use Rattle.history.proofs.Picks.{paired, by-test, not-both}
+use Rattle.history.specs.Seen.{inArea, byteIn}
+use Rattle.history.proofs.Track.{toRam, placeOf, lands, Track, atReset, writeAccepted, tickAccepted, choiceAccepted, placeAccepted, cyclesOf, runsIn, ends, enabling, selecting, storing, beginning, running, ending, controlled, registered, written, next, follow, told, seen, Told}
 use Rattle.history.proofs.Area.{area-byte}
 use Rattle.history.proofs.Reachable.{Sound, reset-sound, call-sound}
 
@@ -228,7 +228,7 @@ module _ (w : World) (im : List ℕ) (own : w .state .held ≡ true → w .store
       -- a capture held is not at its end
       before-end : (c .held && eqb e total) ≡ false
       before-end =
-          by-test (c .held)
+          either (c .held)
           (λ h. simp h (ne-eqb e total (λ z. omega (arith, before-total c exists h))))
           (λ h. simp h)
 
@@ -328,9 +328,9 @@ module _ (w : World) (im : List ℕ) (own : w .state .held ≡ true → w .store
 
       pub tick-told : Ticked n
       tick-told =
-          by-test (lent w n exists)
+          either (lent w n exists)
           (λ ok.
-          by-test (capture.running c)
+          either (capture.running c)
           (λ on.
           split (e + n) total
           (λ l. onward ok on l)
@@ -404,19 +404,9 @@ module _ (w : World) (im : List ℕ) (own : w .state .held ≡ true → w .store
     write-number image a v =
         ap (λ (n : ℕ). eqb n 0) (write-refuses c (w .ram) (w .store) image a v .numbered) ∙ write-none c (w .ram) (w .store) image a exists
 
-    choose-number : (light level : ℕ) (plain : Bool) (exposure : Exposure) → eqb (refusalIn (answers w (choose light level plain exposure))) 0 ≡ choiceAccepted light level
-    unfolding answers choiceAccepted
-    choose-number light level plain exposure =
-        ap (λ (n : ℕ). eqb n 0) (choose-refuses c light level plain exposure .numbered) ∙ choose-none c light level exists
-
     pub place-number : (file : List ℕ) → eqb (refusalIn (answers w (place file))) 0 ≡ placeAccepted (seen w im) file
     unfolding answers placeAccepted
     place-number file = ap (λ (n : ℕ). eqb n 0) (place-refuses c (w .ram) file .numbered) ∙ place-none c (w .ram) file exists
-
-    tick-number : (n : ℕ) → eqb (refusalIn (answers w (tick n))) 0 ≡ tickAccepted (seen w im)
-    unfolding answers tickAccepted
-    tick-number n =
-        ap (λ (m : ℕ). eqb m 0) (tick-refuses c (w .ram) (w .store) n .numbered) ∙ tick-lent c (w .ram) (w .store) exists
 
     -- ---- the RAM
 
@@ -452,10 +442,10 @@ module _ (w : World) (im : List ℕ) (own : w .state .held ≡ true → w .store
     write-byte image a v p =
         let q = placeOf (seen w im) a in
         rw (write-ram image a v)
-        (by-test (toRam (seen w im) image a)
+        (either (toRam (seen w im) image a)
         (λ yes.
         rw yes
-        (by-test (eqb p q)
+        (either (eqb p q)
         (λ here. let e : p ≡ q = eqb-true p q here in rw (here, e) (getD-set-same (w .ram) q v 0 (ram-at image a yes)))
         (λ other. rw other (getD-set-other (w .ram) q p v 0 (eqb-false p q other)))))
         (λ none. rw none))
@@ -463,7 +453,7 @@ module _ (w : World) (im : List ℕ) (own : w .state .held ≡ true → w .store
     place-byte : (file : List ℕ) (p : ℕ) → getD (leaves w (place file) .ram) p 0 ≡ pick (fits file && inArea p) (placedByte (pixelsOf file) (p - 0x100)) (getD (w .ram) p 0)
     place-byte file p =
         rw (place-leaves w file exists)
-        (by-test (fits file)
+        (either (fits file)
         (λ ok. rw ok (area-byte (w .ram) file (bank-fits file ok) p))
         (λ bad. rw bad))
 
@@ -564,24 +554,7 @@ module _ (ram store : List ℕ) (cs : List Call) where
   pub told-true : Told (told ram store cs) (after (fresh ram store) cs)
   told-true = m .told
 
-  -- Counted: the count that the next call returns is its running cycles, as the calls alone tell them
-  pub count-true : (k : Call) → countIn (answers (after (fresh ram store) cs) k) ≡ runsIn (told ram store cs) k
-  count-true k = count-next t w m k
-
-  -- Accepted: the next write, tick, choice or placing is answered with no refusal just where the calls alone tell so
-  pub write-true : (image : List ℕ) (a v : ℕ) → eqb (refusalIn (answers (after (fresh ram store) cs) (write image a v))) 0 ≡ writeAccepted (told ram store cs) image a
-  write-true image a v =
-      subst (λ (u : Track). eqb (refusalIn (answers w (write image a v))) 0 ≡ writeAccepted u image a) (sym (m .told .same))
-      (write-number w (t .image) (m .told .own) (m .sound .exists) image a v)
-
-  pub tick-true : (n : ℕ) → eqb (refusalIn (answers (after (fresh ram store) cs) (tick n))) 0 ≡ tickAccepted (told ram store cs)
-  tick-true n =
-      subst (λ (u : Track). eqb (refusalIn (answers w (tick n))) 0 ≡ tickAccepted u) (sym (m .told .same))
-      (tick-number w (t .image) (m .told .own) (m .sound .exists) n)
-
-  pub choose-true : (light level : ℕ) (plain : Bool) (exposure : Exposure) → eqb (refusalIn (answers (after (fresh ram store) cs) (choose light level plain exposure))) 0 ≡ choiceAccepted light level
-  choose-true light level plain exposure = choose-number w (t .image) (m .told .own) (m .sound .exists) light level plain exposure
-
+  -- Accepted: the next placing is answered with no refusal just where the calls alone tell so
   pub place-true : (file : List ℕ) → eqb (refusalIn (answers (after (fresh ram store) cs) (place file))) 0 ≡ placeAccepted (told ram store cs) file
   place-true file =
       subst (λ (u : Track). eqb (refusalIn (answers w (place file))) 0 ≡ placeAccepted u file) (sym (m .told .same))

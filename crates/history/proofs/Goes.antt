@@ -9,13 +9,13 @@ use lib.ListN.{set}
 use borrow.Author.Tests.{not-true, eqb-true}
 use Rattle.laws.specs.Bits.{isSet}
 use Rattle.laws.proofs.Pick.{pick-ind}
-use Rattle.laws.proofs.Bools.{both-left, both-right}
+use Rattle.laws.proofs.Bools.{either, not-both, both-left, both-right}
 use Rattle.desk.specs.declared.choice.Exposure.{Exposure}
 use Rattle.desk.specs.Choice.{registersChosen}
 use Rattle.history.specs.History.{Call, reset, read, write, tick, inspect, choose, place, World, fresh, leaves, answers, countIn, after, counted}
-use Rattle.history.specs.Track.{Track, atReset, writeAccepted, choiceAccepted, cyclesOf, runsIn, ends, toRegisters, starts, imageIn, registersAt, enabling, selecting, storing, beginning, running, ending, controlled, registered, written, next, follow, told}
-use Rattle.history.specs.Since.{isReset, goesOn, Held, Whole}
-use Rattle.history.proofs.Picks.{by-test, not-both}
+use Rattle.history.specs.Seen.{isReset}
+use Rattle.history.proofs.Track.{Track, atReset, writeAccepted, choiceAccepted, cyclesOf, runsIn, ends, toRegisters, starts, imageIn, registersAt, enabling, selecting, storing, beginning, running, ending, controlled, registered, written, next, follow, told}
+use Rattle.history.proofs.Since.{goesOn, Held, Whole}
 use Rattle.history.proofs.Follows.{Moment, at-reset, moment-next, moment-after, count-next}
 
 -- a capture is held with this image, these registers, after so many cycles
@@ -217,7 +217,7 @@ idle-runs t (choose light level plain exposure) h = refl
 idle-runs t (place file) h = refl
 
 pub rests-next : (t : Track) (k : Call) → t .held ≡ false → starts t k ≡ false → (runsIn t k ≡ 0) × (next t k .held ≡ false)
-rests-next t k h s = (idle-runs t k h, by-test (next t k .held) (λ on. not-both (was-held t k s on .0) h) (λ off. off))
+rests-next t k h s = (idle-runs t k h, either (next t k .held) (λ on. not-both (was-held t k s on .0) h) (λ off. off))
 
 -- ---- lists of calls
 

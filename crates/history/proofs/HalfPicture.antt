@@ -17,16 +17,15 @@ use Rattle.tiles.specs.Tiles.{shadeIn}
 use Rattle.tiles.specs.Tiles as tiles
 use Rattle.tiles.specs.Picture.{pictureShade}
 use Rattle.timing.proofs.Lent.{ram-lent}
-use Rattle.laws.proofs.Bools.{both-left, both-right}
-use Rattle.controller.proofs.Exists.{neither-left, neither-right}
+use Rattle.laws.proofs.Bools.{not-both, both-left, both-right, neither-left, neither-right}
 use Rattle.tiles.proofs.Area.{Stands, stands}
 use Rattle.history.specs.History.{Call, reset, read, write, tick, inspect, choose, place, World, fresh, leaves, after, counted}
-use Rattle.history.specs.Track.{Track, atReset, writeAccepted, runsIn, toRegisters, starts, imageIn, registersAt, toRam, inArea, lands, next, follow, told, litBy}
-use Rattle.history.specs.Since.{Held, ofPixel, cycleOf, landed, Clear, goesOn}
-use Rattle.history.specs.Bits.{columnAt, rowAt, pixelAt, bitAt, sends, shadeSent, sentIn, lastSent}
-use Rattle.history.proofs.Picks.{not-both}
+use Rattle.history.specs.Seen.{inArea}
+use Rattle.history.specs.Bits.{cycleOf, columnAt, rowAt, pixelAt, bitAt, shadeSent}
+use Rattle.history.proofs.Track.{Track, atReset, writeAccepted, runsIn, toRegisters, starts, imageIn, registersAt, toRam, lands, next, follow, told, litBy}
+use Rattle.history.proofs.Since.{Held, ofPixel, landed, Clear, goesOn, sendsTold, sentTold, lastTold}
 use Rattle.history.proofs.Follows.{Moment, at-reset, moment-next, moment-after, count-next}
-use Rattle.history.proofs.Touched.{ram-size, still-sends, touched}
+use Rattle.history.proofs.Touched.{ram-size, still-sends, touched-told}
 use Rattle.history.proofs.Outside.{same-size}
 use Rattle.history.proofs.Goes.{Of, goes-next, first-goes, moment-start, begun, same-count, start-count}
 
@@ -99,10 +98,10 @@ shade-of-bits r old j s most false e =
 -- ---- what is sent to a bit from a start on
 
 -- a list of calls after another
-pub sent-append : (p b : ℕ) (xs ys : List Call) (t : Track) (first : ℕ) → lastSent p b t (xs ++ ys) first ≡ lastSent p b (follow t xs) ys (lastSent p b t xs first)
-unfolding lastSent follow
+pub sent-append : (p b : ℕ) (xs ys : List Call) (t : Track) (first : ℕ) → lastTold p b t (xs ++ ys) first ≡ lastTold p b (follow t xs) ys (lastTold p b t xs first)
+unfolding lastTold follow
 sent-append p b [] ys t first = refl
-sent-append p b (k ∷ xs) ys t first = sent-append p b xs ys (next t k) (sentIn p b t k first)
+sent-append p b (k ∷ xs) ys t first = sent-append p b xs ys (next t k) (sentTold p b t k first)
 
 module _ (image regs : List ℕ) (p b was : ℕ) (here : inArea p ≡ true) where
   abbrev cycle : ℕ
@@ -123,18 +122,18 @@ module _ (image regs : List ℕ) (p b was : ℕ) (here : inArea p ≡ true) wher
       (λ late. rw (le-ltb n cycle late, le-leb cycle n late, le-leb cycle (n + r) (omega arith))))
 
   -- one call
-  pub sent-next : (t : Track) (n : ℕ) (k : Call) → Of image regs n t → lands t k p ≡ false → sentIn p b t k (sent-by n) ≡ sent-by (n + runsIn t k)
-  unfolding sentIn sends shadeSent
+  pub sent-next : (t : Track) (n : ℕ) (k : Call) → Of image regs n t → lands t k p ≡ false → sentTold p b t k (sent-by n) ≡ sent-by (n + runsIn t k)
+  unfolding sentTold sendsTold shadeSent
   sent-next t n k o out = rw (out, here) (more-sent (t .image) (t .taken) (t .ran) n (runsIn t k) (o .image) (o .taken) (o .ran))
 
   -- calls through which the capture goes on
   pub sent-through : (cs : List Call) (t : Track) (w : World) → Moment t w → (n : ℕ) → Of image regs n t → goesOn t cs ≡ true → landed p t cs ≡ false
-      → lastSent p b t cs (sent-by n) ≡ sent-by (n + counted w cs)
-  unfolding lastSent counted landed
+      → lastTold p b t cs (sent-by n) ≡ sent-by (n + counted w cs)
+  unfolding lastTold counted landed
   sent-through [] t w m n o g c = rw (add-zero n)
   sent-through (k ∷ cs) t w m n o g c =
       let f = first-goes t k cs g in
-      ap (lastSent p b (next t k) cs) (sent-next t n k o (neither-left (lands t k p) (landed p (next t k) cs) c))
+      ap (lastTold p b (next t k) cs) (sent-next t n k o (neither-left (lands t k p) (landed p (next t k) cs) c))
       ∙ sent-through cs (next t k) (leaves w k) (moment-next t w m k) (n + runsIn t k) (goes-next t o k (f .0) (f .1)) (f .2) (neither-right (lands t k p) (landed p (next t k) cs) c)
       ∙ rw (count-next t w m k, add-assoc n (runsIn t k) (counted (leaves w k) cs))
 
@@ -163,8 +162,8 @@ starts-lands t inspect p h = refl
 starts-lands t (choose light level plain exposure) p h = refl
 starts-lands t (place file) p h = not-both h refl
 
-start-sent : (t : Track) (k : Call) (p b was : ℕ) → starts t k ≡ true → sentIn p b t k was ≡ was
-unfolding sentIn
+start-sent : (t : Track) (k : Call) (p b was : ℕ) → starts t k ≡ true → sentTold p b t k was ≡ was
+unfolding sentTold
 start-sent t k p b was h = rw (starts-lands t k p h, still-sends t k p b (start-count t k h))
 
 -- it is over a RAM of a size allowed, of one bank at least
@@ -191,17 +190,17 @@ module _ (ram store : List ℕ) (before : List Call) (start : Call) (p b : ℕ) 
   since-start = sent-by (imageIn start) (registersAt t₀ start) p b was here
 
   -- by *touched*, all that is told of a bit before the start is what it was then; at the start no pixel is sent
-  pub sent-start : (rest : List Call) → bitOf (getD (after (fresh ram store) (before ++ (start ∷ rest)) .ram) p 0) b ≡ lastSent p b (next t₀ start) rest (since-start 0)
-  unfolding lastSent
+  pub sent-start : (rest : List Call) → bitOf (getD (after (fresh ram store) (before ++ (start ∷ rest)) .ram) p 0) b ≡ lastTold p b (next t₀ start) rest (since-start 0)
+  unfolding lastTold
   sent-start rest =
-      touched ram store (before ++ (start ∷ rest)) p b (λ _. small)
+      touched-told ram store (before ++ (start ∷ rest)) p b (λ _. small)
       ∙ sent-append p b before (start ∷ rest) (atReset (length ram) (length store)) (bitOf (getD ram p 0) b)
-      ∙ ap (lastSent p b t₀ (start ∷ rest)) (sym (touched ram store before p b (λ _. small)))
-      ∙ ap (lastSent p b (next t₀ start) rest) (start-sent t₀ start p b was begins ∙ rw (not-at-once (registersAt t₀ start) (pixelAt p b)))
+      ∙ ap (lastTold p b t₀ (start ∷ rest)) (sym (touched-told ram store before p b (λ _. small)))
+      ∙ ap (lastTold p b (next t₀ start) rest) (start-sent t₀ start p b was begins ∙ rw (not-at-once (registersAt t₀ start) (pixelAt p b)))
 
   -- while its capture goes on
   pub sent-now : (between : List Call) (h : Held t₀ start between) → landed p (next t₀ start) between ≡ false
-      → lastSent p b (next t₀ start) between (since-start 0) ≡ since-start (counted w₀ (start ∷ between))
+      → lastTold p b (next t₀ start) between (since-start 0) ≡ since-start (counted w₀ (start ∷ between))
   sent-now between h c =
       sent-through (imageIn start) (registersAt t₀ start) p b was here between (next t₀ start) (leaves w₀ start)
       (moment-start ram store before start between h) 0 (begun ram store before start between h) (h .goes) c

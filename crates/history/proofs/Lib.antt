@@ -1,11 +1,13 @@
 -- Theorems on histories.
-pub mod Picks
 pub mod Area
+pub mod Track
+pub mod Since
 pub mod Exists
 pub mod Reachable
 pub mod Follows
 pub mod Counts
 pub mod Goes
+pub mod Shows
 pub mod Touched
 pub mod Outside
 pub mod Cycles

@@ -1,105 +1,35 @@
 -- An end that is seen is an end that is told, and what is told to end is seen to end: demand 3 on what the worlds show. Assumes nothing.
 use mathlib.Core.Path.{_≡_, refl, sym, ap, subst, _∙_}
-use mathlib.Core.Bool.{Bool, true, false, not, _&&_, and-false}
+use mathlib.Core.Bool.{true, false, not}
 use mathlib.Core.List.{List, [], _∷_, _++_, append-assoc, head-eq-of-cons-eq, tail-eq-of-cons-eq}
-use Prim.Native.Nat.{ℕ, _%_}
+use Prim.Native.Nat.{ℕ, _+_, _/_, _%_, _<_}
+use native.Mathlib.Nat.{add-zero}
 use native.Mathlib.Omega.{arith}
-use lib.Dec.{eqb, ltb}
+use lib.Dec.{eqb, leb}
 use lib.ListN.{getD, set}
-use borrow.Author.Tests.{not-true}
+use borrow.Author.Tests.{not-true, eqb-true}
 use Rattle.laws.specs.Pick.{pick}
-use Rattle.laws.proofs.Bools.{both-left, both-right}
+use Rattle.laws.proofs.Bools.{either, not-both, both-hold, both-left, both-right}
 use Rattle.timing.specs.Timing.{totalOf}
-use Rattle.tiles.specs.Tiles.{areaOf, Bytes}
-use Rattle.controller.specs.State.{started}
-use Rattle.cartridge.specs.Bus.{registersOn, ramPlace}
-use Rattle.history.specs.History.{Call, reset, read, write, tick, inspect, choose, place, World, fresh, leaves, after}
-use Rattle.history.specs.Track.{Track, atReset, writeAccepted, cyclesOf, toRegisters, starts, ends, imageIn, registersAt, toRam, placeOf, inArea, lands, byteIn, next, follow, told, seen}
-use Rattle.history.specs.Since.{isReset, goesOn, Held, Whole, landed, lastIn, bytesIn}
-use Rattle.history.specs.Seen.{startSeen, endSeen, heldThrough, goesTo, landsSeen, landedSeen, lastSeen, AreaLeft, Start, startOf, worldBefore, worldAfter, registersOf, afresh, afreshOf, countsOf, OneStart, Ended}
-use Rattle.history.proofs.Picks.{by-test, not-both}
-use Rattle.history.proofs.Follows.{Moment, at-reset, moment-next, moment-after, write-number, place-number, told-true, cycles-total}
-use Rattle.history.proofs.Goes.{Of, start-of, goes-next, first-goes, end-count, end-next, was-held, same-world}
+use Rattle.lighting.specs.Taken.{settingOf}
+use Rattle.lighting.specs.Light.{litOf}
+use Rattle.tiles.specs.Tiles.{shadeIn, areaOf, Bytes}
+use Rattle.tiles.specs.Tiles as tiles
+use Rattle.tiles.specs.Picture.{pictureShade}
+use Rattle.plates.specs.Grey.{plateOf, plateAfresh}
+use Rattle.history.specs.History.{Call, reset, read, write, tick, inspect, choose, place, World, fresh, leaves, after, counted}
+use Rattle.history.specs.Seen.{idleThrough, Own, inArea, isReset, bytesIn, startSeen, endSeen, heldThrough, landsSeen, landedSeen, lastSeen, AreaLeft, Start, startOf, worldBefore, worldAfter, registersOf, afresh, afreshOf, countsOf, OneStart, Ended}
+use Rattle.history.specs.Bits.{cycleOf}
+use Rattle.history.proofs.Track.{Track, cyclesOf, starts, ends, imageIn, registersAt, lands, next, follow, told}
+use Rattle.history.proofs.Since.{goesOn, Held, Whole, ofPixel, landed}
+use Rattle.history.proofs.Follows.{Moment, at-reset, moment-next, moment-after, told-true, cycles-total}
+use Rattle.history.proofs.Goes.{start-of, goes-next, first-goes, end-next, same-world}
+use Rattle.history.proofs.Shows.{held-is, itself, held-now, held-then, start-same, end-same, lands-same, landed-same, last-same}
 use Rattle.history.proofs.Outside.{outside}
 use Rattle.history.proofs.Cycles.{cycles, cycles-below}
-use Rattle.history.proofs.OwnFrame.{goes-first, one-start}
-use Rattle.history.proofs.Picture.{picture}
-
--- ---- a start and an end, by what is held before and after
-
--- at a start none is held
-start-was : (t : Track) (k : Call) → starts t k ≡ true → t .held ≡ false
-unfolding starts
-start-was t reset h = not-both h refl
-start-was t (read rom a) h = not-both h refl
-start-was t (write image a v) h =
-    not-true (t .held) (both-right (eqb (v % 2) 1) _ (both-right (eqb (a % 128) 0) _ (both-right (toRegisters t image a) _ h)))
-start-was t (tick n) h = not-both h refl
-start-was t inspect h = not-both h refl
-start-was t (choose light level plain exposure) h = not-both h refl
-start-was t (place file) h = not-both h refl
-
-starts-held : (t : Track) (k : Call) → starts t k ≡ (not (t .held) && next t k .held)
-starts-held t k =
-    by-test (starts t k)
-    (λ s. s ∙ sym (rw (start-of t k s .held, start-was t k s)))
-    (λ s. s ∙ sym (by-test (next t k .held) (λ on. rw (was-held t k s on .0)) (λ off. rw (off, and-false))))
-
--- a call in which a capture ends, and one after which it is held, is no reset
-end-is : (t : Track) (k : Call) → ends t k ≡ true → isReset k ≡ false
-unfolding ends isReset
-end-is t reset h = not-both h refl
-end-is t (read rom a) h = refl
-end-is t (write image a v) h = refl
-end-is t (tick n) h = refl
-end-is t inspect h = refl
-end-is t (choose light level plain exposure) h = refl
-end-is t (place file) h = refl
-
-held-is : (t : Track) (k : Call) → next t k .held ≡ true → isReset k ≡ false
-unfolding isReset
-held-is t reset h = unfold next atReset in not-both h refl
-held-is t (read rom a) h = refl
-held-is t (write image a v) h = refl
-held-is t (tick n) h = refl
-held-is t inspect h = refl
-held-is t (choose light level plain exposure) h = refl
-held-is t (place file) h = refl
-
--- a capture that is held
-itself : (t : Track) → t .held ≡ true → Of (t .image) (t .taken) (t .ran) t
-itself t h = record { held = h; image = refl; taken = refl; ran = refl }
-
-ends-held : (t : Track) (k : Call) → ends t k ≡ (t .held && (not (isReset k) && not (next t k .held)))
-ends-held t k =
-    by-test (ends t k)
-    (λ e. e ∙ sym (rw (end-next t k e, end-is t k e, end-count t k e .0)))
-    (λ e.
-    e
-    ∙ sym
-    (by-test (t .held)
-    (λ h. by-test (isReset k) (λ r. rw (r, h)) (λ r. rw (goes-next t (itself t h) k r e .held, r, h)))
-    (λ h. rw h)))
-
--- ---- what is told and what the world shows
-
-held-now : (t : Track) (w : World) → Moment t w → t .held ≡ w .state .held
-held-now t w m = ap (λ (u : Track). u .held) (m .told .same)
-
-module _ (t : Track) (w : World) (m : Moment t w) (k : Call) where
-  held-then : next t k .held ≡ leaves w k .state .held
-  held-then = held-now (next t k) (leaves w k) (moment-next t w m k)
-
-  start-same : starts t k ≡ startSeen w k
-  unfolding startSeen
-  start-same = starts-held t k ∙ (λ i. not (held-now t w m i) && held-then i)
-
-  end-same : ends t k ≡ endSeen w k
-  unfolding endSeen
-  end-same = ends-held t k ∙ (λ i. held-now t w m i && (not (isReset k) && not (held-then i)))
-
-both-hold : {a b : Bool} → a ≡ true → b ≡ true → (a && b) ≡ true
-both-hold p q = rw (p, q)
+use Rattle.history.proofs.OwnFrame.{own-frame, goes-first, one-start}
+use Rattle.history.proofs.HalfPicture.{half-picture}
+use Rattle.history.proofs.Picture.{picture, plate, area-stays}
 
 -- it goes on where it is held all through
 goes-held : (cs : List Call) (t : Track) (w : World) → Moment t w → t .held ≡ true → goesOn t cs ≡ true → heldThrough w cs ≡ true
@@ -120,46 +50,7 @@ held-goes (k ∷ cs) t w m h =
     let m′ = moment-next t w m k in
     let r : heldThrough (leaves w k) cs ≡ true = unfold heldThrough in both-right (w .state .held) (heldThrough (leaves w k) cs) h in
     let on : next t k .held ≡ true = held-then t w m k ∙ first-held cs (leaves w k) r in
-    goes-first t k cs (held-is t k on) (by-test (ends t k) (λ e. not-both on (end-next t k e)) (λ e. e)) (held-goes cs (next t k) (leaves w k) m′ r)
-
--- ---- where a write lands
-
--- the tests of a write that lands, in the one order and in the other
-in-order : (ok high ram free on here : Bool) → ((ok && (high && (ram && (not free && on)))) && here) ≡ (ok && (high && (ram && (pick free false on && here))))
-in-order false high ram free on here = refl
-in-order true false ram free on here = refl
-in-order true true false free on here = refl
-in-order true true true true on here = refl
-in-order true true true false on here = refl
-
-module _ (t : Track) (w : World) (m : Moment t w) where
-  lands-shown : (k : Call) (p : ℕ) → lands (seen w (t .image)) k p ≡ landsSeen w k p
-  unfolding lands landsSeen goesTo toRam placeOf
-  lands-shown reset p = refl
-  lands-shown (read rom a) p = refl
-  lands-shown (write image a v) p =
-      rw (write-number w (t .image) (m .told .own) (m .sound .exists) image a v)
-      (in-order (writeAccepted (seen w (t .image)) image a) (not (ltb a 0x8000)) (not (registersOn (w .state))) (started (w .state .registers)) (w .state .enabled)
-      (eqb p (ramPlace (w .state) (w .ram) a)))
-  lands-shown (tick n) p = refl
-  lands-shown inspect p = refl
-  lands-shown (choose light level plain exposure) p = refl
-  lands-shown (place file) p = rw (place-number w (t .image) (m .told .own) (m .sound .exists) file)
-
-  lands-same : (k : Call) (p : ℕ) → lands t k p ≡ landsSeen w k p
-  lands-same k p = subst (λ (u : Track). lands u k p ≡ landsSeen w k p) (sym (m .told .same)) (lands-shown k p)
-
-landed-same : (cs : List Call) (t : Track) (w : World) → Moment t w → (p : ℕ) → landed p t cs ≡ landedSeen p w cs
-unfolding landed landedSeen
-landed-same [] t w m p = refl
-landed-same (k ∷ cs) t w m p = rw (lands-same t w m k p, landed-same cs (next t k) (leaves w k) (moment-next t w m k) p)
-
-last-same : (cs : List Call) (t : Track) (w : World) → Moment t w → (p first : ℕ) → lastIn p t cs first ≡ lastSeen p w cs first
-unfolding lastIn lastSeen
-last-same [] t w m p first = refl
-last-same (k ∷ cs) t w m p first =
-    last-same cs (next t k) (leaves w k) (moment-next t w m k) p (pick (lands t k p) (byteIn k p) first)
-    ∙ ap (λ (b : Bool). lastSeen p (leaves w k) cs (pick b (byteIn k p) first)) (lands-same t w m k p)
+    goes-first t k cs (held-is t k on) (either (ends t k) (λ e. not-both on (end-next t k e)) (λ e. e)) (held-goes cs (next t k) (leaves w k) m′ r)
 
 -- ---- from reset
 
@@ -225,6 +116,15 @@ goes-more (c ∷ cs) t k g r e =
     let f = first-goes t c cs g in
     goes-first t c (cs ++ (k ∷ [])) (f .0) (f .1) (goes-more cs (next t c) k (f .2) r e)
 
+-- a pixel's two bytes
+of-pixel : (P : ℕ → Type 0) (j : ℕ) → ((d : ℕ) → d < 2 → P (tiles.place (j % 128) (j / 128) + d)) → (p : ℕ) → ofPixel j p ≡ true → P p
+unfolding ofPixel
+of-pixel P j f p here =
+    let q = tiles.place (j % 128) (j / 128) in
+    either (eqb p q)
+    (λ e. subst P (add-zero q ∙ sym (eqb-true p q e)) (f 0 (omega arith)))
+    (λ e. subst P (sym (eqb-true p (q + 1) (rw e at here))) (f 1 (omega arith)))
+
 module _ {ram store : List ℕ} {calls : List Call} (s : Start ram store calls) where
   m-before : Moment (told ram store (s .before)) (worldBefore s)
   m-before = moment-after (s .before) _ _ (at-reset ram store)
@@ -249,6 +149,37 @@ module _ {ram store : List ℕ} {calls : List Call} (s : Start ram store calls) 
   world-same : after (fresh ram store) calls ≡ after (worldAfter s) (s .since)
   world-same = ap (after (fresh ram store)) (s .whole) ∙ same-world ram store (s .before) (startOf s) (s .since) start-held
 
+  -- Held below: while it is held, the counts returned since the start stay below its total
+  pub held-below : counted (worldBefore s) (startOf s ∷ s .since) < totalOf (registersOf s)
+  held-below = rw (← total-same) (cycles-below ram store (s .before) (startOf s) (s .since) start-held)
+
+  -- Own seen: the frame store is the light of the image lent at the start, by the registers at it, and these are the taken ones
+  pub own-seen : Own (s .image) (registersOf s) (counted (worldBefore s) (startOf s ∷ s .since)) (after (fresh ram store) calls)
+  unfolding imageIn
+  own-seen =
+      let n = counted (worldBefore s) (startOf s ∷ s .since) in
+      subst (λ (cs : List Call). Own (s .image) (registersOf s) n (after (fresh ram store) cs)) (sym (s .whole))
+      (subst (λ (regs : List ℕ). Own (s .image) regs n (after (fresh ram store) (s .before ++ (startOf s ∷ s .since)))) registers-same
+      (own-frame ram store (s .before) (startOf s) (s .since) start-held))
+
+  -- Half seen: a pixel in whose two bytes no call landed since is the fresh picture's if the cycles counted since the start reach its cycle,
+  -- and else what it was at the start
+  pub half-seen : (j : ℕ) → j < 14336 → ((d : ℕ) → d < 2 → landedSeen (tiles.place (j % 128) (j / 128) + d) (worldAfter s) (s .since) ≡ false)
+      → shadeIn (after (fresh ram store) calls .ram) (j % 128) (j / 128)
+      ≡ pick (leb (cycleOf (registersOf s) j) (counted (worldBefore s) (startOf s ∷ s .since)))
+      (pictureShade (litOf (s .image) (settingOf (registersOf s))) (registersOf s) (j % 128) (j / 128))
+      (shadeIn (worldBefore s .ram) (j % 128) (j / 128))
+  unfolding imageIn
+  half-seen j most left =
+      let n = counted (worldBefore s) (startOf s ∷ s .since) in
+      ap (λ (cs : List Call). shadeIn (after (fresh ram store) cs .ram) (j % 128) (j / 128)) (s .whole)
+      ∙ half-picture ram store (s .before) (startOf s) (s .since) j most start-held
+      (λ p here. landed-same (s .since) _ _ m-after p ∙ of-pixel (λ (q : ℕ). landedSeen q (worldAfter s) (s .since) ≡ false) j left p here)
+      ∙ ap
+      (λ (regs : List ℕ).
+      pick (leb (cycleOf regs j) n) (pictureShade (litOf (s .image) (settingOf regs)) regs (j % 128) (j / 128)) (shadeIn (worldBefore s .ram) (j % 128) (j / 128)))
+      registers-same
+
   module _ (last : Call) where
     all-calls : calls ++ (last ∷ []) ≡ s .before ++ (startOf s ∷ (s .since ++ (last ∷ [])))
     all-calls = ap (λ (cs : List Call). cs ++ (last ∷ [])) (s .whole) ∙ append-assoc (s .before) (startOf s ∷ s .since) (last ∷ [])
@@ -259,7 +190,7 @@ module _ {ram store : List ℕ} {calls : List Call} (s : Start ram store calls) 
     -- Total ends: a capture whose counts add up to its total with a call that is no reset is seen to end in that call
     pub total-ends : isReset last ≡ false → countsOf s last ≡ totalOf (registersOf s) → endSeen (after (fresh ram store) calls) last ≡ true
     total-ends r e =
-        by-test (endSeen (after (fresh ram store) calls) last) (λ h. h)
+        either (endSeen (after (fresh ram store) calls) last) (λ h. h)
         (λ on.
         let more : Held (told ram store (s .before)) (startOf s) (s .since ++ (last ∷ [])) =
         record { begins = start-held .begins; goes = goes-more (s .since) _ last (start-held .goes) r (end-now ∙ on) } in
@@ -281,6 +212,22 @@ module _ {ram store : List ℕ} {calls : List Call} (s : Start ram store calls) 
           rw all-calls
           (picture ram store (s .before) (startOf s) (s .since) last ended-whole (λ p here. landed-same (s .since) _ _ m-after p ∙ left p here) first (rw all-calls at bytes)
           ∙ ap (afresh (s .image)) registers-same)
+
+      -- Plate seen: and the file exported of it is the file of the picture afresh
+      pub ended-plate : Bytes ram → bytesIn (calls ++ (last ∷ [])) ≡ true → AreaLeft (worldAfter s) (s .since)
+          → plateOf (after (fresh ram store) (calls ++ (last ∷ [])) .ram) ≡ plateAfresh (litOf (s .image) (settingOf (registersOf s))) (registersOf s)
+      unfolding imageIn
+      ended-plate first bytes left =
+          rw all-calls
+          (plate ram store (s .before) (startOf s) (s .since) last ended-whole (λ p here. landed-same (s .since) _ _ m-after p ∙ left p here) first (rw all-calls at bytes)
+          ∙ ap (λ (regs : List ℕ). plateAfresh (litOf (s .image) (settingOf regs)) regs) registers-same)
+
+      -- Picture stays: through any calls after it, with no capture held and none that landed in the area
+      pub ended-stays : Bytes ram → bytesIn (calls ++ (last ∷ [])) ≡ true → AreaLeft (worldAfter s) (s .since)
+          → (later : List Call) → idleThrough (after (fresh ram store) (calls ++ (last ∷ []))) later ≡ true → AreaLeft (after (fresh ram store) (calls ++ (last ∷ []))) later
+          → areaOf (after (after (fresh ram store) (calls ++ (last ∷ []))) later .ram) ≡ afreshOf s
+      ended-stays first bytes left later idle on =
+          area-stays later _ _ (moment-after (calls ++ (last ∷ [])) _ _ (at-reset ram store)) idle on ∙ ended-picture first bytes left
 
 -- Only start: calls have one start at most since which a capture was held all through
 pub only-start : {ram store : List ℕ} {calls : List Call} (s other : Start ram store calls) → OneStart s other

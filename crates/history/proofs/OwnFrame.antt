@@ -4,12 +4,13 @@ use mathlib.Core.Bool.{true, false}
 use mathlib.Core.List.{List, [], _∷_, _++_}
 use Prim.Native.Nat.{ℕ}
 use lib.ListN.{length}
+use Rattle.laws.proofs.Bools.{either, not-both}
 use Rattle.lighting.specs.Taken.{settingOf}
 use Rattle.lighting.specs.Light.{lightFrame}
 use Rattle.history.specs.History.{Call, fresh, after, counted}
-use Rattle.history.specs.Track.{Track, atReset, ends, starts, imageIn, registersAt, next, follow, told}
-use Rattle.history.specs.Since.{isReset, goesOn, Held, Whole, Begun, Own}
-use Rattle.history.proofs.Picks.{by-test, not-both}
+use Rattle.history.specs.Seen.{isReset, Own}
+use Rattle.history.proofs.Track.{Track, atReset, ends, starts, imageIn, registersAt, next, follow, told}
+use Rattle.history.proofs.Since.{goesOn, Held, Whole, Begun}
 use Rattle.history.proofs.Follows.{moment-next, told-true}
 use Rattle.history.proofs.Goes.{was-held, end-next, moment-now, on, same-world, now-last, world-last, moment-last, whole-world}
 
@@ -58,7 +59,7 @@ since [] t h f g = f h refl
 since (k ∷ cs) t h f g =
     since cs (next t k) h
     (λ held goes.
-    by-test (starts t k)
+    either (starts t k)
     (λ s. g [] k cs refl (record { begins = s; goes = goes }))
     (λ s. let p = was-held t k s held in f (p .0) (goes-first t k cs (p .1) (p .2) goes)))
     (λ before start between e p. g (k ∷ before) start between (ap (λ (l : List Call). k ∷ l) e) p)

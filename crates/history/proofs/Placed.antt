@@ -1,16 +1,17 @@
 -- A placing in a history: what it leaves, that a held capture keeps it out, and the bus writes that it amounts to. Assumes nothing.
-use mathlib.Core.Path.{_≡_, refl, sym, ap, subst, _∙_}
+use mathlib.Core.Path.{_≡_, refl, sym, ap, _∙_}
 use mathlib.Core.Bool.{Bool, true, false, not, _&&_, and-false}
 use mathlib.Core.List.{List, [], _∷_, _++_}
 use Prim.Native.Nat.{ℕ, zero, suc, _+_, _-_, _/_, _%_, _<_, _≤_}
 use native.Mathlib.Nat.{zero-add, zero-mod}
 use native.Mathlib.Omega.{arith}
+use lib.Dec.{eqb}
 use lib.ListN.{length, getD, set}
 use lib.Seq.{getD-set-other, ext-getD}
-use borrow.Author.Tests.{lt-ltb, le-ltb, le-leb, lt-leb, ltb-false, not-true}
+use borrow.Author.Tests.{eqb-true, lt-ltb, le-ltb, le-leb, lt-leb, ltb-false}
 use Rattle.laws.specs.Pick.{pick}
 use Rattle.laws.proofs.Order.{split}
-use Rattle.laws.proofs.Bools.{both-left, both-right, not-fails}
+use Rattle.laws.proofs.Bools.{not-both, not-fails}
 use Rattle.controller.specs.declared.Controller.{Controller}
 use Rattle.timing.specs.Lent.{ramAllowed, frameAllowed}
 use Rattle.controller.specs.State.{started, cantExist}
@@ -26,100 +27,103 @@ use Rattle.desk.proofs.Registers.{stored-length, stored-before, stored-at}
 use Rattle.placing.specs.Placing.{isPlate, pixelsOf, placedByte, placedArea, placedIn, placeRows}
 use Rattle.placing.proofs.Placed.{place-fits, place-refuses}
 use Rattle.placing.proofs.Left.{left-length, left-area}
-use Rattle.history.specs.History.{Call, reset, read, write, tick, inspect, choose, place, World, fresh, leaves, answers, refusalIn, after}
-use Rattle.history.specs.Track.{Track, placeAccepted, runsIn, starts, ends, inArea, lands, next, follow, told}
-use Rattle.history.specs.Since.{Held, Clear, noStart}
+use Rattle.history.specs.History.{Call, reset, read, write, tick, inspect, choose, place, World, fresh, leaves, answers, refusalIn, countIn, after}
+use Rattle.history.specs.Seen.{startSeen, endSeen, idleThrough, inArea, accepted, goesIn, landsSeen, AreaLeft}
 use Rattle.history.specs.Writes.{writesFrom, placeWrites}
-use Rattle.history.proofs.Picks.{not-both}
 use Rattle.history.proofs.Area.{area-byte}
+use Rattle.history.proofs.Track.{placeAccepted, starts, ends, told}
 use Rattle.history.proofs.Exists.{exists-enabled, exists-select}
-use Rattle.history.proofs.Follows.{Moment, at-reset, moment-next, moment-after, write-leaves, place-leaves, withPlaced, told-true}
-use Rattle.history.proofs.Goes.{after-append, world-now, moment-now, on, same-world}
+use Rattle.history.proofs.Follows.{Moment, at-reset, moment-next, moment-after, write-leaves, place-leaves, place-number, withPlaced}
+use Rattle.history.proofs.Goes.{after-append}
+use Rattle.history.proofs.Shows.{start-same, end-same}
+use Rattle.history.proofs.Outside.{same-size}
+use Rattle.history.proofs.OwnFrame.{one-start}
 use Rattle.history.proofs.HalfPicture.{allowed-ram}
-use Rattle.history.proofs.Picture.{stays-through, area-same}
-use Rattle.history.proofs.Touched.{ram-size}
-use Rattle.history.proofs.Outside.{size-after, same-size}
+use Rattle.history.proofs.Picture.{area-stays}
 use Rattle.history.proofs.Chosen.{Lends, with-state, select-leaves}
 use Rattle.history.proofs.Reachable.{reachable}
 
--- a placing starts nothing, ends nothing and runs no cycle, and all that is told stays
-pub record Still (t : Track) (k : Call) : Type 0 where
-  pub no-start : starts t k ≡ false
-  pub no-end : ends t k ≡ false
-  pub no-cycle : runsIn t k ≡ 0
-  pub same : next t k ≡ t
+-- a call that is seen to start nothing, to end nothing and to run no cycle
+pub record Still (w : World) (k : Call) : Type 0 where
+  pub no-start : startSeen w k ≡ false
+  pub no-end : endSeen w k ≡ false
+  pub no-cycle : countIn (answers w k) ≡ 0
 
-pub place-still : (t : Track) (file : List ℕ) → Still t (place file)
-unfolding starts ends runsIn next
-place-still t file = record { no-start = refl; no-end = refl; no-cycle = refl; same = refl }
+module _ (ram store : List ℕ) (cs : List Call) (file : List ℕ) where
+  abbrev now : World
+  now = after (fresh ram store) cs
 
--- Placed: after any calls from reset, an accepted placing changes the area and nothing else, and any other changes nothing
-pub placing-leaves : (ram store : List ℕ) (cs : List Call) (file : List ℕ)
-    → leaves (after (fresh ram store) cs) (place file) ≡ pick (placeAccepted (told ram store cs) file) (withPlaced (after (fresh ram store) cs) file) (after (fresh ram store) cs)
-unfolding placeAccepted
-placing-leaves ram store cs file =
-    let w : World = after (fresh ram store) cs in
-    subst (λ (t : Track). leaves w (place file) ≡ pick (ramAllowed (t .ramSize) && (isPlate file && not (t .held))) (withPlaced w file) w) (sym (told-true ram store cs .same))
-    (place-leaves w file (reachable ram store cs))
+  m : Moment (told ram store cs) now
+  m = moment-after cs _ _ (at-reset ram store)
 
--- Placed stays: through any calls after it, with no start and none that landed in the area, the area's 3,584 bytes are the file's
-pub placed-stays : (ram store : List ℕ) (cs : List Call) (file : List ℕ) (later : List Call)
-    → placeAccepted (told ram store cs) file ≡ true
-    → noStart (told ram store cs) later ≡ true
-    → Clear inArea (told ram store cs) later
-    → areaOf (after (leaves (after (fresh ram store) cs) (place file)) later .ram) ≡ placedArea (pixelsOf file)
-unfolding placeAccepted next
-placed-stays ram store cs file later ok s q =
-    let t = told ram store cs in
-    let w : World = after (fresh ram store) cs in
-    let w′ : World = leaves w (place file) in
-    let m = moment-after cs _ _ (at-reset ram store) in
-    let m′ : Moment t w′ = moment-next t w m (place file) in
-    let free : (isPlate file && not (t .held)) ≡ true = both-right (ramAllowed (t .ramSize)) _ ok in
-    let off : t .held ≡ false = not-true (t .held) (both-right (isPlate file) (not (t .held)) free) in
-    let long : 8192 ≤ length (w .ram) = rw (ram-size t w m (place file)) (ram-lent (t .ramSize) (both-left (ramAllowed (t .ramSize)) _ ok) .least) in
-    let placed : w′ ≡ withPlaced w file = placing-leaves ram store cs file ∙ rw ok in
-    area-same (after w′ later .ram) (w′ .ram) (size-after later t w′ m′) (stays-through later t w′ m′ off s q)
-    ∙ ap (λ (u : World). areaOf (u .ram)) placed
-    ∙ left-area (w .ram) file long
+  -- Still: after any calls from reset, a placing starts nothing, ends nothing and runs no cycle
+  pub place-still : Still (after (fresh ram store) cs) (place file)
+  unfolding starts ends answers
+  place-still = record { no-start = sym (start-same _ _ m (place file)); no-end = sym (end-same _ _ m (place file)); no-cycle = refl }
+
+  -- Placed: after any calls from reset, an accepted placing changes the area and nothing else, and any other changes nothing
+  pub placing-leaves : leaves (after (fresh ram store) cs) (place file)
+      ≡ pick (accepted (after (fresh ram store) cs) (place file)) (withPlaced (after (fresh ram store) cs) file) (after (fresh ram store) cs)
+  unfolding placeAccepted
+  placing-leaves =
+      place-leaves now file (m .sound .exists)
+      ∙ ap (λ (b : Bool). pick b (withPlaced now file) now) (sym (place-number now (told ram store cs .image) (m .told .own) (m .sound .exists) file))
+
+  -- Placed stays: through any calls after it, with no capture held and none that landed in the area, the area's 3,584 bytes are the file's
+  pub placed-stays : (later : List Call)
+      → accepted (after (fresh ram store) cs) (place file) ≡ true
+      → idleThrough (leaves (after (fresh ram store) cs) (place file)) later ≡ true
+      → AreaLeft (leaves (after (fresh ram store) cs) (place file)) later
+      → areaOf (after (leaves (after (fresh ram store) cs) (place file)) later .ram) ≡ placedArea (pixelsOf file)
+  unfolding answers
+  placed-stays later ok idle left =
+      let fits = place-fits (now .state) (now .ram) file (sym (place-refuses (now .state) (now .ram) file .numbered) ∙ eqb-true _ 0 ok) in
+      let placed : leaves now (place file) ≡ withPlaced now file = placing-leaves ∙ ap (λ (b : Bool). pick b (withPlaced now file) now) ok in
+      area-stays later _ _ (moment-next _ _ m (place file)) idle left
+      ∙ ap (λ (u : World). areaOf (u .ram)) placed
+      ∙ left-area (now .ram) file (ram-lent (length (now .ram)) (fits .ram-fits) .least)
 
 -- ---- while a capture is held
 
 -- a placing is refused, 8 for the file or else 10, lands nowhere, and leaves all that it finds
-pub record KeptOut (t : Track) (w : World) (file : List ℕ) : Type 0 where
+pub record KeptOut (w : World) (file : List ℕ) : Type 0 where
   pub number : refusalIn (answers w (place file)) ≡ pick (isPlate file) 10 8
-  pub nowhere : (p : ℕ) → lands t (place file) p ≡ false
+  pub nowhere : (p : ℕ) → landsSeen w (place file) p ≡ false
   pub unchanged : leaves w (place file) ≡ w
 
 module _ (w : World) (file : List ℕ) (exists : cantExist (w .state) ≡ false) (fits : ramAllowed (length (w .ram)) ≡ true) (held : w .state .held ≡ true) where
   held-number : refusalIn (answers w (place file)) ≡ pick (isPlate file) 10 8
   unfolding answers placeRows lowest
-  held-number = place-refuses (w .state) (w .ram) file .numbered ∙ rw (exists, fits, held) (by-test (isPlate file))
+  held-number = place-refuses (w .state) (w .ram) file .numbered ∙ rw (exists, fits, held) (eight (isPlate file))
     where
-      by-test : (b : Bool) → _≡_ {A = ℕ} (pick (not b) 8 10) (pick b 10 8)
-      by-test true = refl
-      by-test false = refl
+      eight : (b : Bool) → _≡_ {A = ℕ} (pick (not b) 8 10) (pick b 10 8)
+      eight true = refl
+      eight false = refl
+
+  held-nowhere : (p : ℕ) → landsSeen w (place file) p ≡ false
+  unfolding landsSeen
+  held-nowhere p = rw held-number (refused (isPlate file))
+    where
+      there : Bool
+      there = goesIn (w .state) (w .ram) (place file) p
+
+      refused : (b : Bool) → (there && eqb (pick b 10 8) 0) ≡ false
+      refused true = and-false there
+      refused false = and-false there
 
   held-leaves : leaves w (place file) ≡ w
   held-leaves = place-leaves w file exists ∙ rw (fits, held, and-false (isPlate file))
 
--- Kept out: any calls, a start, any calls through which its capture goes on: a placing then is kept out
-pub kept-out : (ram store : List ℕ) (before : List Call) (start : Call) (between : List Call) (file : List ℕ)
-    → Held (told ram store before) start between
-    → KeptOut (follow (next (told ram store before) start) between) (after (fresh ram store) (before ++ (start ∷ between))) file
-unfolding lands placeAccepted
-kept-out ram store before start between file h =
-    let calls = before ++ (start ∷ between) in
-    let w : World = after (fresh ram store) calls in
-    let o = on ram store before start between h in
-    let held : world-now ram store before start between h .state .held ≡ true = sym (ap (λ (u : Track). u .held) (moment-now ram store before start between h .told .same)) ∙ o .held in
-    let held-now : w .state .held ≡ true = rw (same-world ram store before start between h) held in
-    let exists : cantExist (w .state) ≡ false = reachable ram store calls in
-    let fits : ramAllowed (length (w .ram)) ≡ true = rw (same-size ram store calls) (allowed-ram ram store before start (h .begins)) in
+-- Kept out: after any calls from reset, where a capture is held, a placing is kept out
+pub kept-out : (ram store : List ℕ) (calls : List Call) (file : List ℕ) → after (fresh ram store) calls .state .held ≡ true → KeptOut (after (fresh ram store) calls) file
+kept-out ram store calls file held =
+    let b = one-start ram store calls held in
+    let exists = reachable ram store calls in
+    let fits : ramAllowed (length (after (fresh ram store) calls .ram)) ≡ true = rw (same-size ram store calls) (allowed-ram ram store (b .before) (b .start) (b .held .begins)) in
     record {
-      number = held-number w file exists fits held-now;
-      nowhere = λ p. simp (o .held, and-false);
-      unchanged = held-leaves w file exists fits held-now;
+      number = held-number (after (fresh ram store) calls) file exists fits held;
+      nowhere = held-nowhere (after (fresh ram store) calls) file exists fits held;
+      unchanged = held-leaves (after (fresh ram store) calls) file exists fits held;
     }
 
 -- a call is a write
@@ -129,16 +133,16 @@ pub record Wrote (k : Call) : Type 0 where
   pub byte : ℕ
   pub is : k ≡ write image address byte
 
--- Only writes: what lands while a capture is held is a write, so placings between a start and its end break no premise of `picture` or `half-picture`
-pub only-writes : (t : Track) (k : Call) (p : ℕ) → t .held ≡ true → lands t k p ≡ true → Wrote k
-unfolding lands placeAccepted
-only-writes t reset p h l = not-both l refl
-only-writes t (read rom a) p h l = not-both l refl
-only-writes t (write image a v) p h l = record { image = image; address = a; byte = v; is = refl }
-only-writes t (tick n) p h l = not-both l refl
-only-writes t inspect p h l = not-both l refl
-only-writes t (choose light level plain exposure) p h l = not-both l refl
-only-writes t (place file) p h l = not-both l (simp (h, and-false))
+-- Only writes: what lands while a capture is held is a write, so placings between a start and its end break no premise of `end-seen` or `half-seen`
+pub only-writes : (ram store : List ℕ) (calls : List Call) (k : Call) (p : ℕ) → after (fresh ram store) calls .state .held ≡ true
+    → landsSeen (after (fresh ram store) calls) k p ≡ true → Wrote k
+only-writes ram store calls reset p h l = unfold landsSeen goesIn in not-both l refl
+only-writes ram store calls (read rom a) p h l = unfold landsSeen goesIn in not-both l refl
+only-writes ram store calls (write image a v) p h l = record { image = image; address = a; byte = v; is = refl }
+only-writes ram store calls (tick n) p h l = unfold landsSeen goesIn in not-both l refl
+only-writes ram store calls inspect p h l = unfold landsSeen goesIn in not-both l refl
+only-writes ram store calls (choose light level plain exposure) p h l = unfold landsSeen goesIn in not-both l refl
+only-writes ram store calls (place file) p h l = not-both l (kept-out ram store calls file h .nowhere p)
 
 -- ---- as bus writes
 

@@ -1,22 +1,20 @@
 -- Every state reached from reset can exist, whatever is called, so refusal 1 is never given. Assumes nothing.
 use mathlib.Core.Path.{_≡_, refl, sym, _∙_}
-use mathlib.Core.Bool.{Bool, true, false, _&&_}
+use mathlib.Core.Bool.{Bool, true, false}
 use mathlib.Core.List.{List, [], _∷_}
 use Prim.Native.Nat.{ℕ, _+_, _%_}
 use native.Mathlib.Omega.{arith}
 use lib.Dec.{eqb, ltb}
 use lib.ListN.{length, length-set}
 use borrow.Author.Tests.{eqb-false}
-use Rattle.laws.specs.Iter.{iter-keeps}
+use Rattle.laws.proofs.Iter.{iter-keeps}
 use Rattle.laws.proofs.Pick.{pick-ind}
 use Rattle.controller.specs.declared.Controller.{Controller}
 use Rattle.timing.specs.Timing.{totalOf}
 use Rattle.controller.specs.State.{cantExist, resetState}
 use Rattle.capture.specs.Capture.{begun, moved, ended, Ticking, cycle, runs, running, ticks, from}
 use Rattle.cartridge.specs.Bus.{Left, byteWritten, controlWritten, registerWritten, captureWritten, withBank, withRegister, withEnabled, withSelect, isStart, registersOn}
-use Rattle.controller.specs.Table.{onCartridge}
 use Rattle.lighting.specs.Light.{byteAt}
-use Rattle.timing.specs.Lent.{romAllowed, ramAllowed, frameAllowed}
 use Rattle.controller.specs.Outcome.{Outcome}
 use Rattle.controller.specs.Table.{lowest}
 use Rattle.cartridge.specs.Calls.{readRows, readMeans, writeRows, writeMeans}

@@ -11,7 +11,7 @@ use borrow.Author.Tests.{eq-eqb, ne-eqb, leb-true, leb-false, le-leb, lt-leb, lt
 use Rattle.laws.specs.Pick.{pick}
 use Rattle.laws.specs.Bits.{bitOf}
 use Rattle.laws.proofs.Order.{split}
-use Rattle.laws.proofs.Bools.{both-left, both-right}
+use Rattle.laws.proofs.Bools.{either, not-both, both-left, both-right}
 use Rattle.lighting.specs.Taken.{settingOf}
 use Rattle.lighting.specs.Light.{lightFrame, byteAt, litOf}
 use Rattle.sensor.specs.Shade.{shadeAt}
@@ -19,7 +19,7 @@ use Rattle.sensor.proofs.Rows.{rows}
 use Rattle.sensor.proofs.Lit.{light-alike}
 use Rattle.timing.specs.Lent.{ramAllowed}
 use Rattle.timing.specs.Timing.{readingFrom, firstRow}
-use Rattle.timing.specs.Bulk.{pictureFrom, doneBy}
+use Rattle.timing.specs.Aside.{pictureFrom, doneBy}
 use Rattle.timing.proofs.Lent.{ram-lent}
 use Rattle.timing.proofs.Range.{timed, done-most}
 use Rattle.tiles.specs.Tiles.{shadeIn}
@@ -28,14 +28,15 @@ use Rattle.tiles.specs.Picture.{pictureShade}
 use Rattle.tiles.specs.Bulk.{pixels}
 use Rattle.tiles.proofs.Run.{pixels-none}
 use Rattle.tiles.proofs.Pixels.{pixels-outside, pixels-passed, pixels-others}
-use Rattle.capture.proofs.TickSum.{ap-pick}
+use Rattle.laws.proofs.Pick.{ap-pick}
 use Rattle.history.specs.History.{Call, reset, read, write, tick, inspect, choose, place, World, fresh, leaves, after}
-use Rattle.history.specs.Track.{Track, atReset, tickAccepted, runsIn, inArea, lands, byteIn, next, litBy}
-use Rattle.history.specs.Since.{cycleOf}
-use Rattle.history.specs.Bits.{columnAt, rowAt, pixelAt, bitAt, sends, shadeSent, sentIn, lastSent}
-use Rattle.history.proofs.Picks.{by-test, not-both}
-use Rattle.history.proofs.Follows.{Moment, at-reset, moment-next, put-next, byte-next}
-use Rattle.history.proofs.Goes.{idle-runs}
+use Rattle.history.specs.Seen.{startSeen, inArea, landsSeen, byteIn}
+use Rattle.history.specs.Bits.{cycleOf, columnAt, rowAt, pixelAt, bitAt, sends, shadeSent, lentIn, sentIn, lastSent}
+use Rattle.history.proofs.Track.{Track, atReset, tickAccepted, runsIn, starts, imageIn, lands, next, litBy}
+use Rattle.history.proofs.Since.{sendsTold, sentTold, lastTold}
+use Rattle.history.proofs.Follows.{Moment, at-reset, moment-next, count-next, put-next, byte-next}
+use Rattle.history.proofs.Goes.{start-of, goes-next, was-held, idle-runs}
+use Rattle.history.proofs.Shows.{itself, start-same, lands-same}
 
 -- ---- where a bit stands
 
@@ -171,13 +172,13 @@ short-runs t (place file) h = refl
 none-between : (e c r : ℕ) → r ≡ 0 → (ltb e c && leb c (e + r)) ≡ false
 none-between e c r z = rw z (split e c (λ l. rw (add-zero e, lt-leb c e l, and-false)) (λ l. rw (le-ltb e c l)))
 
-pub still-sends : (t : Track) (k : Call) (p b : ℕ) → runsIn t k ≡ 0 → sends t k p b ≡ false
-unfolding sends
+pub still-sends : (t : Track) (k : Call) (p b : ℕ) → runsIn t k ≡ 0 → sendsTold t k p b ≡ false
+unfolding sendsTold
 still-sends t k p b z = ap (λ (s : Bool). inArea p && s) (none-between (t .ran) (cycleOf (t .taken) (pixelAt p b)) (runsIn t k) z) ∙ and-false (inArea p)
 
 -- nor outside the area
-pub out-sends : (t : Track) (k : Call) (p b : ℕ) → inArea p ≡ false → sends t k p b ≡ false
-unfolding sends
+pub out-sends : (t : Track) (k : Call) (p b : ℕ) → inArea p ≡ false → sendsTold t k p b ≡ false
+unfolding sendsTold
 out-sends t k p b out = rw out
 
 module _ (t : Track) (w : World) (m : Moment t w) (k : Call) where
@@ -195,7 +196,7 @@ module _ (t : Track) (w : World) (m : Moment t w) (k : Call) where
 
   module _ (p b : ℕ) where
     abbrev Put : Type 0
-    Put = bitOf (getD (put-next t w m k) p 0) b ≡ pick (sends t k p b) (shadeSent t p b) (bitOf (getD (w .ram) p 0) b)
+    Put = bitOf (getD (put-next t w m k) p 0) b ≡ pick (sendsTold t k p b) (shadeSent (t .image) (t .taken) p b) (bitOf (getD (w .ram) p 0) b)
 
     still : runsIn t k ≡ 0 → Put
     still z = rw (still-sends t k p b z, z, add-zero (t .ran), pixels-none (byteAt (w .store)) (t .taken) (doneBy (t .taken) (t .ran)) (w .ram))
@@ -203,9 +204,9 @@ module _ (t : Track) (w : World) (m : Moment t w) (k : Call) where
     apart : inArea p ≡ false → Put
     apart out = rw (out-sends t k p b out, pixels-outside (byteAt (w .store)) (t .taken) _ _ (w .ram) (done-most (t .taken) _) p (away p out))
 
-    -- the capture held sends its own pixel
+    -- the capture held sendsTold its own pixel
     runs : inArea p ≡ true → b < 8 → t .held ≡ true → ramAllowed (t .ramSize) ≡ true → Put
-    unfolding sends shadeSent
+    unfolding sendsTold shadeSent
     runs here small held ok =
         let shade = own-shade (m .told .own (sym (ap (λ (u : Track). u .held) (m .told .same)) ∙ held)) (columnAt p b) (rowAt p) (column-small p b here small) (row-small p b here small) in
         let long : 8192 ≤ length (w .ram) = rw ram-size (ram-lent (t .ramSize) ok .least) in
@@ -215,16 +216,16 @@ module _ (t : Track) (w : World) (m : Moment t w) (k : Call) where
 
     put : (inArea p ≡ true → b < 8) → Put
     put small =
-        by-test (inArea p)
+        either (inArea p)
         (λ here.
-        by-test (t .held)
-        (λ held. by-test (ramAllowed (t .ramSize)) (λ ok. runs here (small here) held ok) (λ bad. still (short-runs t k bad)))
+        either (t .held)
+        (λ held. either (ramAllowed (t .ramSize)) (λ ok. runs here (small here) held ok) (λ bad. still (short-runs t k bad)))
         (λ off. still (idle-runs t k off)))
         apart
 
-    -- one call: what it sends
-    bit-next : (inArea p ≡ true → b < 8) → bitOf (getD (leaves w k .ram) p 0) b ≡ sentIn p b t k (bitOf (getD (w .ram) p 0) b)
-    unfolding sentIn
+    -- one call: what it sendsTold
+    bit-next : (inArea p ≡ true → b < 8) → bitOf (getD (leaves w k .ram) p 0) b ≡ sentTold p b t k (bitOf (getD (w .ram) p 0) b)
+    unfolding sentTold
     bit-next small =
         ap (λ (v : ℕ). bitOf v b) (byte-next t w m k p)
         ∙ ap-pick (λ (v : ℕ). bitOf v b) (lands t k p) (byteIn k p) (getD (put-next t w m k) p 0)
@@ -233,14 +234,79 @@ module _ (t : Track) (w : World) (m : Moment t w) (k : Call) where
 -- ---- any calls
 
 bit-after : (p b : ℕ) → (inArea p ≡ true → b < 8) → (cs : List Call) (t : Track) (w : World) → Moment t w
-    → bitOf (getD (after w cs .ram) p 0) b ≡ lastSent p b t cs (bitOf (getD (w .ram) p 0) b)
-unfolding after lastSent
+    → bitOf (getD (after w cs .ram) p 0) b ≡ lastTold p b t cs (bitOf (getD (w .ram) p 0) b)
+unfolding after lastTold
 bit-after p b small [] t w m = refl
 bit-after p b small (k ∷ cs) t w m =
-    bit-after p b small cs (next t k) (leaves w k) (moment-next t w m k) ∙ ap (lastSent p b (next t k) cs) (bit-next t w m k p b small)
+    bit-after p b small cs (next t k) (leaves w k) (moment-next t w m k) ∙ ap (lastTold p b (next t k) cs) (bit-next t w m k p b small)
+
+-- from reset, as the calls alone tell it
+pub touched-told : (ram store : List ℕ) (cs : List Call) (p b : ℕ) → (inArea p ≡ true → b < 8)
+    → bitOf (getD (after (fresh ram store) cs .ram) p 0) b ≡ lastTold p b (atReset (length ram) (length store)) cs (bitOf (getD ram p 0) b)
+touched-told ram store cs p b small = bit-after p b small cs _ _ (at-reset ram store)
+
+-- ---- and what is told is seen
+
+-- the image of a start, and that of any other call
+lent-start : (t : Track) (w : World) (image : List ℕ) (k : Call) → starts t k ≡ true → startSeen w k ≡ true → lentIn w k image ≡ imageIn k
+unfolding starts imageIn lentIn
+lent-start t w image reset s h = not-both s refl
+lent-start t w image (read rom a) s h = not-both s refl
+lent-start t w image (write lent a v) s h = rw h
+lent-start t w image (tick n) s h = not-both s refl
+lent-start t w image inspect s h = not-both s refl
+lent-start t w image (choose light level plain exposure) s h = not-both s refl
+lent-start t w image (place file) s h = not-both s refl
+
+lent-other : (w : World) (image : List ℕ) (k : Call) → startSeen w k ≡ false → lentIn w k image ≡ image
+unfolding lentIn
+lent-other w image reset h = refl
+lent-other w image (read rom a) h = refl
+lent-other w image (write lent a v) h = rw h
+lent-other w image (tick n) h = refl
+lent-other w image inspect h = refl
+lent-other w image (choose light level plain exposure) h = refl
+lent-other w image (place file) h = refl
+
+module _ (t : Track) (w : World) (m : Moment t w) (image : List ℕ) (own : t .held ≡ true → t .image ≡ image) (k : Call) where
+  -- the image of the capture held
+  lent-next : next t k .held ≡ true → next t k .image ≡ lentIn w k image
+  lent-next on =
+      either (starts t k)
+      (λ s. start-of t k s .image ∙ sym (lent-start t w image k s (sym (start-same t w m k) ∙ s)))
+      (λ s.
+      let h = was-held t k s on in
+      goes-next t (itself t (h .0)) k (h .1) (h .2) .image ∙ own (h .0) ∙ sym (lent-other w image k (sym (start-same t w m k) ∙ s)))
+
+  module _ (p b : ℕ) where
+    sends-same : sendsTold t k p b ≡ sends w k p b
+    unfolding sendsTold sends
+    sends-same =
+        ap (λ (u : Track). inArea p && (ltb (u .ran) (cycleOf (u .taken) (pixelAt p b)) && leb (cycleOf (u .taken) (pixelAt p b)) (u .ran + runsIn t k))) (m .told .same)
+        ∙ rw (count-next t w m k)
+
+    sent-same : (was : ℕ) → sentTold p b t k was ≡ sentIn p b w image k was
+    unfolding sentTold sentIn
+    sent-same was =
+        rw (lands-same t w m k p)
+        (ap (pick (landsSeen w k p) (bitOf (byteIn k p) b))
+        (either (t .held)
+        (λ h.
+        rw (sends-same, own h) (ap (λ (u : Track). pick (sends w k p b) (shadeSent image (u .taken) p b) was) (m .told .same)))
+        (λ h. let off : sendsTold t k p b ≡ false = still-sends t k p b (idle-runs t k h) in rw (off, sym sends-same ∙ off))))
+
+last-sent : (p b : ℕ) (cs : List Call) (t : Track) (w : World) → Moment t w → (image : List ℕ) → (t .held ≡ true → t .image ≡ image) → (first : ℕ)
+    → lastTold p b t cs first ≡ lastSent p b w image cs first
+unfolding lastTold lastSent
+last-sent p b [] t w m image own first = refl
+last-sent p b (k ∷ cs) t w m image own first =
+    ap (lastTold p b (next t k) cs) (sent-same t w m image own k p b first)
+    ∙ last-sent p b cs (next t k) (leaves w k) (moment-next t w m k) (lentIn w k image) (lent-next t w m image own k) (sentIn p b w image k first)
 
 -- Touched: from reset, after any calls, over any RAM and frame store, each bit of the RAM is the last thing sent to it, or what it held
 -- at first; in the picture area each of the bits 0 to 7, and of every other byte each bit
 pub touched : (ram store : List ℕ) (cs : List Call) (p b : ℕ) → (inArea p ≡ true → b < 8)
-    → bitOf (getD (after (fresh ram store) cs .ram) p 0) b ≡ lastSent p b (atReset (length ram) (length store)) cs (bitOf (getD ram p 0) b)
-touched ram store cs p b small = bit-after p b small cs _ _ (at-reset ram store)
+    → bitOf (getD (after (fresh ram store) cs .ram) p 0) b ≡ lastSent p b (fresh ram store) [] cs (bitOf (getD ram p 0) b)
+unfolding atReset
+touched ram store cs p b small =
+    touched-told ram store cs p b small ∙ last-sent p b cs _ (fresh ram store) (at-reset ram store) [] (λ h. not-both h refl) (bitOf (getD ram p 0) b)

@@ -19,14 +19,18 @@ use Rattle.controller.specs.Table.{onCartridge}
 use Rattle.plates.specs.Grey.{plateOf}
 use Rattle.placing.proofs.RoundTrip.{out-in, plate-is}
 use Rattle.history.specs.History.{Call, reset, read, write, tick, inspect, place, fresh, after, counted}
-use Rattle.history.specs.Track.{atReset, writeAccepted, tickAccepted, placeAccepted, cyclesOf, runsIn, ends, toRegisters, starts, imageIn, registersAt, toRam, placeOf, inArea, lands, byteIn, enabling, selecting, storing, beginning, running, ending, controlled, registered, written, next, follow, told, litBy}
-use Rattle.history.specs.Since.{isReset, goesOn, Held, Whole, ofPixel, cycleOf, landed, Clear, noStart, lastIn, writesByte, bytesIn}
-use Rattle.history.specs.Counts.{tally, startsTold, endsTold}
+use Rattle.history.specs.Seen.{inArea, byteIn, isReset, writesByte, bytesIn}
+use Rattle.history.specs.Bits.{cycleOf}
+use Rattle.history.proofs.Track.{atReset, writeAccepted, tickAccepted, placeAccepted, cyclesOf, runsIn, ends, toRegisters, starts, imageIn, registersAt, toRam, placeOf, lands, enabling, selecting, storing, beginning, running, ending, controlled, registered, written, next, follow, told, litBy}
+use Rattle.history.proofs.Since.{goesOn, Held, Whole, ofPixel, landed, Clear, noStart, lastIn, tallyTold, startsTold, endsTold}
+use Rattle.history.proofs.Shows.{landed-same, starts-told, ends-told}
 use Rattle.history.proofs.Counts.{Counts, started-counts, ended-counts}
 use Rattle.history.proofs.Outside.{outside}
+use Rattle.history.proofs.Follows.{at-reset, moment-next, place-true}
 use Rattle.history.proofs.Goes.{on}
 use Rattle.history.proofs.Cycles.{cycles}
-use Rattle.history.proofs.Picture.{picture}
+use Rattle.history.proofs.OwnFrame.{own-frame}
+use Rattle.history.proofs.Picture.{picture, told-idle}
 use Rattle.history.proofs.HalfPicture.{half-picture}
 use Rattle.history.proofs.Placed.{placed-stays, KeptOut, kept-out}
 
@@ -120,7 +124,7 @@ unfolding inArea
 beside p here = ne-eqb p 0x1000 (λ e. omega (arith, leb-true p 0xEFF (both-right (leb 0x100 p) (leb p 0xEFF) here)))
 
 pub premises : Premises
-unfolding registersAt starts toRegisters writeAccepted tickAccepted banksAllowed ones onesIn onCartridge follow next atReset written registered controlled enabling selecting storing beginning running ending ends runsIn cyclesOf goesOn isReset landed inArea toRam placeOf lands byteIn writesByte bytesIn lastIn noStart placeAccepted tally
+unfolding registersAt starts toRegisters writeAccepted tickAccepted banksAllowed ones onesIn onCartridge follow next atReset written registered controlled enabling selecting storing beginning running ending ends runsIn cyclesOf goesOn isReset landed inArea toRam placeOf lands byteIn writesByte bytesIn lastIn noStart placeAccepted tallyTold
 premises = record {
   regs-at-start = refl;
   whole = record { held = record { begins = refl; goes = refl }; over = refl };
@@ -166,8 +170,8 @@ worked-outside = outside ram store calls 0x1000 (unfold inArea in refl) ∙ prem
 -- Worked counts: the capture is counted once and once, though it was stopped and resumed; a second start twice and once; and none after a reset
 of-calls : (cs : List Call) (s e : ℕ) → (startsTold ram store cs ≡ s) × (endsTold ram store cs ≡ e) → Counts (s % 65536) (e % 65536) (after (fresh ram store) cs .state)
 of-calls cs s e told = record {
-  started = started-counts ram store cs ∙ ap (λ (n : ℕ). n % 65536) (told .0);
-  ended = ended-counts ram store cs ∙ ap (λ (n : ℕ). n % 65536) (told .1);
+  started = started-counts ram store cs ∙ ap (λ (n : ℕ). n % 65536) (starts-told ram store cs ∙ told .0);
+  ended = ended-counts ram store cs ∙ ap (λ (n : ℕ). n % 65536) (ends-told ram store cs ∙ told .1);
 }
 
 pub worked-counts : Counts 1 1 (after (fresh ram store) calls .state)
@@ -181,14 +185,16 @@ worked-reset = of-calls (calls ++ (reset ∷ [])) 0 0 (premises .told-reset)
 
 -- Worked placing: at the start the area is the white plate's, though RAM writing was not enabled
 pub worked-placed : areaOf (after (fresh ram store) before .ram) ≡ areaOf white
-unfolding after follow
+unfolding after follow next atReset
 worked-placed =
-    placed-stays ram store [] file set-up (premises .accepted) (premises .waits) (premises .alone)
+    let m = moment-next _ _ (at-reset ram store) (place file) in
+    placed-stays ram store [] file set-up (place-true ram store [] file ∙ premises .accepted) (told-idle set-up _ _ m refl (premises .waits))
+    (λ p here. sym (landed-same set-up _ _ m p) ∙ premises .alone p here)
     ∙ out-in white (omega (arith, length-replicate {A = ℕ} 8192 0x00)) (all-bytes 0x00 (omega arith))
 
 -- and at the stop another is refused with number 10, and changes nothing
-pub worked-refused : KeptOut (follow (next (told ram store before) start) stopped) (after (fresh ram store) (before ++ (start ∷ stopped))) file
-worked-refused = kept-out ram store before start stopped file (premises .held)
+pub worked-refused : KeptOut (after (fresh ram store) (before ++ (start ∷ stopped))) file
+worked-refused = kept-out ram store (before ++ (start ∷ stopped)) file (own-frame ram store before start stopped (premises .held) .held)
 
 ran-so-far : counted (after (fresh ram store) before) (start ∷ stopped) ≡ 3000
 ran-so-far = sym (on ram store before start stopped (premises .held) .ran) ∙ premises .ran

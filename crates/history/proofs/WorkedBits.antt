@@ -16,10 +16,11 @@ use Rattle.controller.specs.Table.{onCartridge}
 use Rattle.placing.specs.Placing.{pixelsOf, placedByte, placedArea}
 use Rattle.placing.proofs.RoundTrip.{out-in, plate-is}
 use Rattle.history.specs.History.{Call, write, tick, place, fresh, after}
-use Rattle.history.specs.Track.{atReset, writeAccepted, tickAccepted, placeAccepted, cyclesOf, runsIn, ends, toRam, placeOf, inArea, lands, byteIn, enabling, selecting, storing, beginning, running, ending, controlled, registered, written, next, litBy}
-use Rattle.history.specs.Since.{cycleOf}
-use Rattle.history.specs.Bits.{bitAt, sends, shadeSent, sentIn, lastSent}
-use Rattle.history.proofs.Touched.{touched}
+use Rattle.history.specs.Seen.{inArea, byteIn}
+use Rattle.history.specs.Bits.{cycleOf, bitAt, shadeSent}
+use Rattle.history.proofs.Track.{atReset, writeAccepted, tickAccepted, placeAccepted, cyclesOf, runsIn, ends, toRam, placeOf, lands, enabling, selecting, storing, beginning, running, ending, controlled, registered, written, next, litBy}
+use Rattle.history.proofs.Since.{sendsTold, sentTold, lastTold}
+use Rattle.history.proofs.Touched.{touched-told}
 use Rattle.history.proofs.Worked.{ram, store, image, other, white, file, set-up, start, regs, all-bytes}
 
 -- the registers are selected and set; the file of a white plate is placed; a start, 3,000 cycles, a stop, and 500 cycles that stand still
@@ -43,7 +44,7 @@ calls = edited ++ (write other 0x4000 0x10 ∷ write other 0xA000 0x03 ∷ tick 
 
 -- the last thing sent to a bit, from reset on
 abbrev last-sent : List Call → ℕ → ℕ → ℕ
-last-sent cs p b = lastSent p b (atReset (length ram) (length store)) cs (bitOf (getD ram p 0) b)
+last-sent cs p b = lastTold p b (atReset (length ram) (length store)) cs (bitOf (getD ram p 0) b)
 
 -- what was sent, each computed: bit 3 of 0100h and 0104h is of column 4, in rows 0 and 2; bit 4 of 01EAh is of column 115 in row 5, the
 -- last pixel passed, and bit 3 of column 116
@@ -59,7 +60,7 @@ pub record Sent : Type 0 where
   pub never : last-sent calls 0x1000 3 ≡ 1
 
 sent : Sent
-unfolding lastSent sentIn sends shadeSent bitAt cycleOf readingFrom firstRow exposureOf writeAccepted tickAccepted banksAllowed ones onesIn onCartridge next atReset written registered controlled enabling selecting storing beginning running ending ends runsIn cyclesOf inArea toRam placeOf lands byteIn placeAccepted
+unfolding lastTold sentTold sendsTold shadeSent bitAt cycleOf readingFrom firstRow exposureOf writeAccepted tickAccepted banksAllowed ones onesIn onCartridge next atReset written registered controlled enabling selecting storing beginning running ending ends runsIn cyclesOf inArea toRam placeOf lands byteIn placeAccepted
 sent = record {
   at-the-stop = refl;
   then-write = refl;
@@ -101,9 +102,9 @@ worked-bits = record {
   pixel-then-write = (by stopped 0x100 ∙ sent .at-the-stop, by calls 0x100 ∙ sent .then-write);
   write-then-pixel = (by edited 0x104 ∙ sent .write-first, by calls 0x104 ∙ sent .then-low);
   high-bit = by calls 0x105 ∙ sent .then-high;
-  neighbours = (touched ram store calls 0x1EA 4 (λ _. omega arith) ∙ sent .passed, by calls 0x1EA ∙ sent .not-passed ∙ ap (λ (v : ℕ). bitOf v 3) (white-byte 0xEA (omega arith)));
+  neighbours = (touched-told ram store calls 0x1EA 4 (λ _. omega arith) ∙ sent .passed, by calls 0x1EA ∙ sent .not-passed ∙ ap (λ (v : ℕ). bitOf v 3) (white-byte 0xEA (omega arith)));
   untouched = (by set-up 0x1EA ∙ sent .not-yet, by calls 0x1000 ∙ sent .never);
 }
   where
     by : (cs : List Call) (p : ℕ) → bit cs p 3 ≡ last-sent cs p 3
-    by cs p = touched ram store cs p 3 (λ _. omega arith)
+    by cs p = touched-told ram store cs p 3 (λ _. omega arith)

@@ -1,8 +1,5 @@
--- Any sequence of calls: the calls and what each leaves, and what the calls alone tell.
+-- Any sequence of calls: the calls and what each leaves, what is seen of them, and the bus writes that a choice and a placing amount to.
 pub mod History
-pub mod Track
-pub mod Since
 pub mod Seen
 pub mod Bits
-pub mod Counts
 pub mod Writes

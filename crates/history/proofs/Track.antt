@@ -1,9 +1,10 @@
--- What the calls alone tell, with the sizes lent: no state, no byte of the RAM and no answer is looked at. Assumes nothing.
+-- What the calls alone tell, with the sizes lent: no state, no byte of the RAM and no answer is looked at. A device of the proofs: what is told is
+-- shown to be what is seen. Assumes nothing.
 use mathlib.Core.Path.{_≡_}
 use mathlib.Core.Bool.{Bool, true, false, not, _&&_}
 use mathlib.Core.List.{List, [], _∷_}
 use Prim.Native.Nat.{ℕ, _+_, _-_, _*_, _/_, _%_, min}
-use lib.Dec.{eqb, leb, ltb}
+use lib.Dec.{eqb, ltb}
 use lib.ListN.{length, getD, set}
 use Rattle.laws.specs.Pick.{pick}
 use Rattle.laws.specs.Bits.{isSet}
@@ -13,8 +14,9 @@ use Rattle.timing.specs.Lent.{ramAllowed, frameAllowed}
 use Rattle.controller.specs.State.{started, noRegisters}
 use Rattle.controller.specs.Table.{onCartridge}
 use Rattle.desk.specs.Choice.{beyond, registersChosen}
-use Rattle.placing.specs.Placing.{isPlate, pixelsOf, placedByte}
+use Rattle.placing.specs.Placing.{isPlate}
 use Rattle.history.specs.History.{Call, reset, read, write, tick, inspect, choose, place, World}
+use Rattle.history.specs.Seen.{inArea}
 
 -- the sizes lent; RAM writing enabled, select and registers, as the writes left them; whether a capture is held, and of that capture
 -- the image lent and the registers at its start, and the running cycles since
@@ -127,10 +129,6 @@ toRam t image a =
 unfoldable pub placeOf : Track → ℕ → ℕ
 placeOf t a = t .select % 16 % (t .ramSize / 8192) * 8192 + a % 8192
 
--- the picture area: RAM bank 0, 0100h to 0EFFh
-unfoldable pub inArea : ℕ → Bool
-inArea p = leb 0x100 p && leb p 0xEFF
-
 -- a bus write of a call lands in this place of the RAM; a placing counts as bus writes that landed all over the area
 unfoldable pub lands : Track → Call → ℕ → Bool
 lands t reset p = false
@@ -141,95 +139,52 @@ lands t inspect p = false
 lands t (choose light level plain exposure) p = false
 lands t (place file) p = placeAccepted t file && inArea p
 
--- and which byte it brings there
-unfoldable pub byteIn : Call → ℕ → ℕ
-byteIn reset p = 0
-byteIn (read rom a) p = 0
-byteIn (write image a v) p = v
-byteIn (tick n) p = 0
-byteIn inspect p = 0
-byteIn (choose light level plain exposure) p = 0
-byteIn (place file) p = placedByte (pixelsOf file) (p - 0x100)
-
--- what is told, with one thing changed
-unfoldable pub enabling : Track → Bool → Track
-enabling t b = record {
+-- what is told, with this enabling, select and registers; the capture stays
+abbrev pub controls : Track → Bool → ℕ → List ℕ → Track
+controls t enabled select registers = record {
   ramSize = t .ramSize;
   storeSize = t .storeSize;
-  enabled = b;
-  select = t .select;
-  registers = t .registers;
+  enabled = enabled;
+  select = select;
+  registers = registers;
   held = t .held;
   image = t .image;
   taken = t .taken;
   ran = t .ran;
 }
+
+unfoldable pub enabling : Track → Bool → Track
+enabling t b = controls t b (t .select) (t .registers)
 
 unfoldable pub selecting : Track → ℕ → Track
-selecting t n = record {
-  ramSize = t .ramSize;
-  storeSize = t .storeSize;
-  enabled = t .enabled;
-  select = n;
-  registers = t .registers;
-  held = t .held;
-  image = t .image;
-  taken = t .taken;
-  ran = t .ran;
-}
+selecting t n = controls t (t .enabled) n (t .registers)
 
 unfoldable pub storing : Track → List ℕ → Track
-storing t regs = record {
+storing t regs = controls t (t .enabled) (t .select) regs
+
+-- what is told, with these registers and this capture: held or not, its image, its registers, its cycles
+abbrev pub captures : Track → List ℕ → Bool → List ℕ → List ℕ → ℕ → Track
+captures t registers held image taken ran = record {
   ramSize = t .ramSize;
   storeSize = t .storeSize;
   enabled = t .enabled;
   select = t .select;
-  registers = regs;
-  held = t .held;
-  image = t .image;
-  taken = t .taken;
-  ran = t .ran;
+  registers = registers;
+  held = held;
+  image = image;
+  taken = taken;
+  ran = ran;
 }
 
 -- a capture begun, moved on, ended
 unfoldable pub beginning : Track → List ℕ → List ℕ → Track
-beginning t image regs = record {
-  ramSize = t .ramSize;
-  storeSize = t .storeSize;
-  enabled = t .enabled;
-  select = t .select;
-  registers = regs;
-  held = true;
-  image = image;
-  taken = regs;
-  ran = 0;
-}
+beginning t image regs = captures t regs true image regs 0
 
 unfoldable pub running : Track → ℕ → Track
-running t n = record {
-  ramSize = t .ramSize;
-  storeSize = t .storeSize;
-  enabled = t .enabled;
-  select = t .select;
-  registers = t .registers;
-  held = t .held;
-  image = t .image;
-  taken = t .taken;
-  ran = n;
-}
+running t n = captures t (t .registers) (t .held) (t .image) (t .taken) n
 
 unfoldable pub ending : Track → Track
-ending t = record {
-  ramSize = t .ramSize;
-  storeSize = t .storeSize;
-  enabled = t .enabled;
-  select = t .select;
-  registers = set (t .registers) 0 (getD (t .registers) 0 0 / 2 * 2);
-  held = false;
-  image = t .image;
-  taken = noRegisters;
-  ran = 0;
-}
+ending t = captures t (set (t .registers) 0 (getD (t .registers) 0 0 / 2 * 2)) false (t .image) noRegisters 0
 
 -- 0000-1FFF: 0A enables, 00 disables RAM writing. 4000-5FFF: select is the low five bits
 unfoldable pub controlled : Track → ℕ → ℕ → Track

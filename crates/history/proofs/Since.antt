@@ -1,26 +1,17 @@
--- Since a start: how long its capture goes on, what is passed, and where writes landed. Assumes nothing.
+-- Since a start, as the calls alone tell it: how long its capture goes on, where writes landed, and the last thing sent to a bit. Assumes nothing.
 use mathlib.Core.Path.{_≡_}
 use mathlib.Core.Bool.{Bool, true, false, not, _&&_, _||_}
 use mathlib.Core.List.{List, [], _∷_, _++_}
-use Prim.Native.Nat.{ℕ, _+_, _-_, _*_, _/_, _%_}
-use lib.Dec.{eqb, ltb}
+use Prim.Native.Nat.{ℕ, _+_, _/_, _%_}
+use lib.Dec.{eqb, leb, ltb}
+use lib.ListN.{length}
 use Rattle.laws.specs.Pick.{pick}
-use Rattle.lighting.specs.Taken.{settingOf}
-use Rattle.lighting.specs.Light.{lightFrame}
-use Rattle.timing.specs.Timing.{readingFrom, firstRow}
+use Rattle.laws.specs.Bits.{bitOf}
 use Rattle.tiles.specs.Tiles as tiles
-use Rattle.history.specs.History.{Call, reset, read, write, tick, inspect, choose, place, World}
-use Rattle.history.specs.Track.{Track, next, follow, told, starts, ends, lands, byteIn}
-
--- whether a call is a reset
-unfoldable pub isReset : Call → Bool
-isReset reset = true
-isReset (read rom a) = false
-isReset (write image a v) = false
-isReset (tick n) = false
-isReset inspect = false
-isReset (choose light level plain exposure) = false
-isReset (place file) = false
+use Rattle.history.specs.History.{Call}
+use Rattle.history.specs.Seen.{isReset, inArea, byteIn}
+use Rattle.history.specs.Bits.{pixelAt, cycleOf, shadeSent}
+use Rattle.history.proofs.Track.{Track, atReset, runsIn, next, follow, told, starts, ends, lands}
 
 -- the capture held goes on through these calls: none is a reset, and in none it reaches its end
 unfoldable pub goesOn : Track → List Call → Bool
@@ -45,20 +36,9 @@ pub record Begun (ram store : List ℕ) (calls : List Call) : Type 0 where
   pub whole : calls ≡ before ++ (start ∷ between)
   pub held : Held (told ram store before) start between
 
--- a capture is held, the store is the light of this image, lent at the start, by these registers, and they are taken, after so many cycles
-pub record Own (image regs : List ℕ) (cycles : ℕ) (w : World) : Type 0 where
-  pub held : w .state .held ≡ true
-  pub store : w .store ≡ lightFrame image (settingOf regs)
-  pub taken : w .state .taken ≡ regs
-  pub elapsed : w .state .elapsed .0 ≡ cycles
-
 -- the two bytes of pixel j of the picture, row by row
 unfoldable pub ofPixel : ℕ → ℕ → Bool
 ofPixel j p = eqb p (tiles.place (j % 128) (j / 128)) || eqb p (tiles.place (j % 128) (j / 128) + 1)
-
--- the cycle on which pixel j of the picture falls: the one that first makes elapsed/2 equal S + k + 1, where picture row 0 is sensor row 8
-unfoldable pub cycleOf : List ℕ → ℕ → ℕ
-cycleOf regs j = 2 * (readingFrom regs + (128 * (8 - firstRow regs) + j) + 1)
 
 -- a bus write of these calls landed in this place
 unfoldable pub landed : ℕ → Track → List Call → Bool
@@ -79,17 +59,27 @@ unfoldable pub lastIn : ℕ → Track → List Call → ℕ → ℕ
 lastIn p t [] first = first
 lastIn p t (c ∷ cs) first = lastIn p (next t c) cs (pick (lands t c p) (byteIn c p) first)
 
--- what a call writes is a byte; of a placing it always is
-unfoldable pub writesByte : Call → Bool
-writesByte reset = true
-writesByte (read rom a) = true
-writesByte (write image a v) = ltb v 256
-writesByte (tick n) = true
-writesByte inspect = true
-writesByte (choose light level plain exposure) = true
-writesByte (place file) = true
+-- in a call the capture held sends its pixel to this bit: the pixel's cycle is one of the call's running cycles
+unfoldable pub sendsTold : Track → Call → ℕ → ℕ → Bool
+sendsTold t c p b =
+    inArea p && (ltb (t .ran) (cycleOf (t .taken) (pixelAt p b)) && leb (cycleOf (t .taken) (pixelAt p b)) (t .ran + runsIn t c))
 
--- what these calls write are bytes
-unfoldable pub bytesIn : List Call → Bool
-bytesIn [] = true
-bytesIn (c ∷ cs) = writesByte c && bytesIn cs
+-- what a call sends to this bit, and the last thing that these calls sent there
+unfoldable pub sentTold : ℕ → ℕ → Track → Call → ℕ → ℕ
+sentTold p b t c was = pick (lands t c p) (bitOf (byteIn c p) b) (pick (sendsTold t c p b) (shadeSent (t .image) (t .taken) p b) was)
+
+unfoldable pub lastTold : ℕ → ℕ → Track → List Call → ℕ → ℕ
+lastTold p b t [] first = first
+lastTold p b t (c ∷ cs) first = lastTold p b (next t c) cs (sentTold p b t c first)
+
+-- how many calls of a kind there are since the last reset, with n before these calls
+unfoldable pub tallyTold : (Track → Call → Bool) → Track → List Call → ℕ → ℕ
+tallyTold kind t [] n = n
+tallyTold kind t (c ∷ cs) n = tallyTold kind (next t c) cs (pick (isReset c) 0 (pick (kind t c) (n + 1) n))
+
+-- captures started, and captures that reached their end
+abbrev pub startsTold : List ℕ → List ℕ → List Call → ℕ
+startsTold ram store cs = tallyTold starts (atReset (length ram) (length store)) cs 0
+
+abbrev pub endsTold : List ℕ → List ℕ → List Call → ℕ
+endsTold ram store cs = tallyTold ends (atReset (length ram) (length store)) cs 0
