@@ -6,7 +6,7 @@ use mathlib.Core.List as lists
 use Prim.Native.Nat.{ℕ, _%_}
 use lib.ListN.{length, getD, set}
 use borrow.Author.Tests.{eq-eqb}
-use Rattle.laws.proofs.Bools.{both-left}
+use Rattle.laws.proofs.Bools.{either, not-both, both-left}
 use Rattle.timing.specs.Timing.{totalOf}
 use Rattle.tiles.specs.Tiles.{areaOf, Bytes}
 use Rattle.controller.specs.State.{resetState}
@@ -15,15 +15,13 @@ use Rattle.embed.specs.Exports.{Called}
 use Rattle.embed.proofs.Cases.{reset-done}
 use Rattle.history.specs.History as history
 use Rattle.history.specs.History.{Call, World, fresh, leaves, after}
-use Rattle.history.specs.Track.{Track, starts, inArea, next, follow, told}
-use Rattle.history.specs.Since.{writesByte, bytesIn}
-use Rattle.history.specs.Seen.{startSeen, endSeen, heldThrough, landedSeen, AreaLeft, Start, registersOf, countsOf, afresh}
-use Rattle.history.proofs.Picks.{by-test, not-both}
+use Rattle.history.specs.Seen.{isReset, inArea, writesByte, bytesIn, startSeen, endSeen, heldThrough, landedSeen, AreaLeft, Start, registersOf, countsOf, afresh}
+use Rattle.history.proofs.Track.{Track, starts, next, follow, told}
 use Rattle.history.proofs.Observed.{starts-seen, outside-seen, only-start, ended-cycles, ended-picture, total-ends}
-use Rattle.carried.specs.Exported.{Kept, Export, reset, read, write, tick, inspect, choose, place, atReset, hands, handsOn, counted, isReset, fits, allFit}
+use Rattle.carried.specs.Exported.{Kept, Export, reset, read, write, tick, inspect, choose, place, callOf, atReset, hands, handsOn, counted, fits, allFit}
 use Rattle.carried.specs.Shown.{heldIn, startShown, endShown, heldOn, landedShown, AreaKept, lastShown, Begun, startIn, bytesBefore, bytesAfter, registersIn, OneBegun, Finished}
-use Rattle.carried.proofs.Fits.{callOf, Now, now-reset, now-next, now-whole}
-use Rattle.carried.proofs.Handed.{keptOf, hand-next, registers-same, start-same, end-same, reset-same, first-fits, hands-on, counted-on, held-on, landed-on, last-on}
+use Rattle.carried.proofs.Fits.{Now, now-reset, now-next, now-whole}
+use Rattle.carried.proofs.Handed.{keptOf, hand-next, registers-same, start-same, end-same, first-fits, hands-on, counted-on, held-on, landed-on, last-on}
 
 -- ---- calls whose numbers fit
 
@@ -182,11 +180,11 @@ module _ {ram store : List ℕ} {calls : List Export} (s : Begun ram store calls
         ∙ ap (λ (l : List Call). history.counted w₀ (callOf (startIn s) ∷ l)) (map-append callOf (s .since) (last ∷ []))
 
     -- Total shown: a capture whose counts add up to its total with a call that is no reset is shown to end in that call
-    pub total-shown : isReset last ≡ false → counted (bytesBefore s) (startIn s ∷ (s .since ++ (last ∷ []))) ≡ totalOf (registersIn s)
+    pub total-shown : isReset (callOf last) ≡ false → counted (bytesBefore s) (startIn s ∷ (s .since ++ (last ∷ []))) ≡ totalOf (registersIn s)
         → endShown (handsOn (atReset ram store) calls) last ≡ true
     total-shown r e =
         ends-shown ram store calls f last g
-        ∙ total-ends started (callOf last) (sym (reset-same last) ∙ r) (sym count-all ∙ e ∙ ap totalOf regs-same)
+        ∙ total-ends started (callOf last) r (sym count-all ∙ e ∙ ap totalOf regs-same)
 
     module _ (h : endShown (handsOn (atReset ram store) calls) last ≡ true) where
       over : endSeen (after (fresh ram store) (map callOf calls)) (callOf last) ≡ true
@@ -236,7 +234,7 @@ since-start [] b h f g = f h
 since-start (k ∷ cs) b h f g =
     since-start cs (hands b k) h
     (λ on.
-    by-test (heldIn b)
+    either (heldIn b)
     (λ yes. f (rw (yes, on)))
     (λ no. g [] k cs refl (rw (no, first-held cs (hands b k) on)) on))
     (λ before start since e p q. g (k ∷ before) start since (ap (λ (l : List Export). k ∷ l) e) p q)

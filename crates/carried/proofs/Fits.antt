@@ -21,23 +21,12 @@ use Rattle.layout.proofs.Inverse.{Whole}
 use Rattle.embed.specs.Exports.{plainIn, exposureIn}
 use Rattle.embed.proofs.Left.{elapsed-small}
 use Rattle.history.specs.History as history
-use Rattle.history.specs.History.{Call, World, fresh, leaves}
-use Rattle.history.specs.Track.{Track, atReset, writeAccepted, choiceAccepted, starts, ends, enabling, selecting, storing, beginning, running, ending, controlled, registered, written, next}
-use Rattle.history.specs.Since.{isReset}
+use Rattle.history.specs.History.{World, fresh, leaves}
+use Rattle.history.proofs.Track.{Track, atReset, writeAccepted, choiceAccepted, ends, enabling, selecting, storing, beginning, running, ending, controlled, registered, written, next}
+use Rattle.history.specs.Seen.{isReset, startSeen, endSeen}
 use Rattle.history.proofs.Follows.{Moment, at-reset, moment-next}
 use Rattle.history.proofs.Counts.{counts-next}
-use Rattle.carried.specs.Exported.{Export, reset, read, write, tick, inspect, choose, place, fits}
-
--- ---- the call of the record that an exported call is
-
-unfoldable pub callOf : Export → Call
-callOf reset = history.reset
-callOf (read rom a) = history.read rom a
-callOf (write image a v) = history.write image a v
-callOf (tick n) = history.tick n
-callOf inspect = history.inspect
-callOf (choose light level plain exposure) = history.choose light level (plainIn plain) (exposureIn exposure)
-callOf (place file) = history.place file
+use Rattle.carried.specs.Exported.{Export, reset, read, write, tick, inspect, choose, place, callOf, fits}
 
 -- ---- bytes
 
@@ -202,8 +191,8 @@ now-next t w n k h =
     record {
       moment = moment-next t w (n .moment) (callOf k);
       fit = fit-next t (n .fit) k h;
-      started = rw (c .started) (count-small (isReset (callOf k)) (starts t (callOf k)) (w .state .started) (n .started));
-      ended = rw (c .ended) (count-small (isReset (callOf k)) (ends t (callOf k)) (w .state .ended) (n .ended));
+      started = rw (c .started) (count-small (isReset (callOf k)) (startSeen w (callOf k)) (w .state .started) (n .started));
+      ended = rw (c .ended) (count-small (isReset (callOf k)) (endSeen w (callOf k)) (w .state .ended) (n .ended));
     }
 
 -- so the record's bytes hold the state

@@ -18,12 +18,11 @@ use Rattle.embed.proofs.Cases.{reset-done, read-done, write-done, tick-done, ch
 use Rattle.embed.proofs.Only.{write-says, tick-says, place-says}
 use Rattle.history.specs.History as history
 use Rattle.history.specs.History.{Call, World, leaves, answers, after}
-use Rattle.history.specs.Track.{Track, byteIn, next}
-use Rattle.history.specs.Since as calls
-use Rattle.history.specs.Seen.{startSeen, endSeen, heldThrough, landsSeen, landedSeen, lastSeen}
-use Rattle.carried.specs.Exported.{Kept, Export, reset, read, write, tick, inspect, choose, place, hands, replies, countIn, handsOn, counted, isReset, fits, allFit}
-use Rattle.carried.specs.Shown.{heldIn, startShown, endShown, heldOn, landsShown, landedShown, broughtTo, lastShown}
-use Rattle.carried.proofs.Fits.{callOf, Now, now-next, now-whole}
+use Rattle.history.specs.Seen.{isReset, goesIn, byteIn, startSeen, endSeen, heldThrough, landsSeen, landedSeen, lastSeen}
+use Rattle.history.proofs.Track.{Track, next}
+use Rattle.carried.specs.Exported.{Kept, Export, reset, read, write, tick, inspect, choose, place, callOf, hands, replies, countIn, handsOn, counted, fits, allFit}
+use Rattle.carried.specs.Shown.{heldIn, startShown, endShown, heldOn, landsShown, landedShown, lastShown}
+use Rattle.carried.proofs.Fits.{Now, now-next, now-whole}
 
 -- the bytes of a world
 abbrev pub keptOf : World → Kept
@@ -86,7 +85,7 @@ module _ (w : World) (h : Whole (w .state)) where
 
   -- where it lands
   pub lands-same : (k : Export) (p : ℕ) → landsShown (keptOf w) k p ≡ landsSeen w (callOf k) p
-  unfolding landsShown landsSeen replies answers callOf
+  unfolding landsShown landsSeen goesIn replies answers callOf
   lands-same reset p = refl
   lands-same (read rom a) p = refl
   lands-same (write image a v) p =
@@ -95,26 +94,6 @@ module _ (w : World) (h : Whole (w .state)) where
   lands-same inspect p = refl
   lands-same (choose light level plain exposure) p = refl
   lands-same (place file) p = rw (place-says s (w .ram) file is .number, back)
-
-brought-same : (k : Export) (p : ℕ) → broughtTo k p ≡ byteIn (callOf k) p
-unfolding broughtTo byteIn callOf
-brought-same reset p = refl
-brought-same (read rom a) p = refl
-brought-same (write image a v) p = refl
-brought-same (tick n) p = refl
-brought-same inspect p = refl
-brought-same (choose light level plain exposure) p = refl
-brought-same (place file) p = refl
-
-pub reset-same : (k : Export) → isReset k ≡ calls.isReset (callOf k)
-unfolding isReset calls.isReset callOf
-reset-same reset = refl
-reset-same (read rom a) = refl
-reset-same (write image a v) = refl
-reset-same (tick n) = refl
-reset-same inspect = refl
-reset-same (choose light level plain exposure) = refl
-reset-same (place file) = refl
 
 -- ---- along a history
 
@@ -137,7 +116,7 @@ module _ (t : Track) (w : World) (n : Now t w) where
 
     pub end-same : endShown (keptOf w) k ≡ endSeen w (callOf k)
     unfolding endShown endSeen
-    end-same = λ i. held-same w h i && (not (reset-same k i) && not (held-then i))
+    end-same = λ i. held-same w h i && (not (isReset (callOf k)) && not (held-then i))
 
 -- what is the same of no call, and of one call more where it is of the calls after it, is the same of every list of calls
 along : {R : Type 0} (shown : Kept → List Export → R) (seen : World → List Call → R)
@@ -173,4 +152,4 @@ pub last-on : (p : ℕ) (cs : List Export) (t : Track) (w : World) → Now t w �
 unfolding lastShown lastSeen
 last-on p =
     along (lastShown p) (lastSeen p) (λ t w n i first. first)
-    (λ t w n k f cs e i first. e i (pick (lands-same w (now-whole t w n) k p i) (brought-same k p i) first))
+    (λ t w n k f cs e i first. e i (pick (lands-same w (now-whole t w n) k p i) (byteIn (callOf k) p) first))

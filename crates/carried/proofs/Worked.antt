@@ -8,9 +8,8 @@ use Rattle.history.proofs.Worked.{ram, store, image, other, file, premises, ram
 use Rattle.history.proofs.Worked as history
 use Rattle.history.proofs.Observed.{goes-seen, landed-seen}
 use Rattle.history.proofs.WorkedSeen.{worked-seen}
-use Rattle.carried.specs.Exported.{Export, read, write, tick, inspect, place, atReset, hands, handsOn, fits, allFit}
+use Rattle.carried.specs.Exported.{Export, read, write, tick, inspect, place, callOf, atReset, hands, handsOn, fits, allFit}
 use Rattle.carried.specs.Shown.{startShown, endShown, heldOn, AreaKept, Begun, bytesAfter, registersIn, Finished}
-use Rattle.carried.proofs.Fits.{callOf}
 use Rattle.carried.proofs.Carried.{starts-shown, ends-shown, held-since, landed-since, end-shown, one-kept}
 
 abbrev pub before : List Export

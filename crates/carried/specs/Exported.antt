@@ -1,11 +1,14 @@
 -- Exported calls one after the other: each is lent the state's bytes, the RAM and the frame store as the last one left them. Assumes nothing.
-use mathlib.Core.Bool.{Bool, true, false, _&&_}
+use mathlib.Core.Bool.{Bool, true, _&&_}
 use mathlib.Core.List.{List, [], _∷_}
-use Prim.Native.Nat.{ℕ, _+_, _/_, _%_}
+use Prim.Native.Nat.{ℕ, _+_}
 use lib.Dec.{ltb}
 use Rattle.controller.specs.State.{resetState}
 use Rattle.layout.specs.Layout.{encoded}
-use Rattle.embed.specs.Exports.{resetBytes, readBytes, writeBytes, tickBytes, inspectBytes, chooseBytes, placeBytes}
+use Rattle.answers.specs.Packed.{valueIn}
+use Rattle.history.specs.History as history
+use Rattle.history.specs.History.{Call}
+use Rattle.embed.specs.Exports.{plainIn, exposureIn, resetBytes, readBytes, writeBytes, tickBytes, inspectBytes, chooseBytes, placeBytes}
 
 -- what is handed on from call to call
 pub record Kept : Type 0 where
@@ -22,6 +25,16 @@ pub data Export : Type 0 where
   inspect : Export
   choose : (light level plain exposure : ℕ) → Export
   place : (file : List ℕ) → Export
+
+-- the controller's call that it asks for
+unfoldable pub callOf : Export → Call
+callOf reset = history.reset
+callOf (read rom a) = history.read rom a
+callOf (write image a v) = history.write image a v
+callOf (tick n) = history.tick n
+callOf inspect = history.inspect
+callOf (choose light level plain exposure) = history.choose light level (plainIn plain) (exposureIn exposure)
+callOf (place file) = history.place file
 
 -- the bytes of reset, with any RAM and frame store
 abbrev pub atReset : List ℕ → List ℕ → Kept
@@ -67,13 +80,6 @@ replies b inspect = inspectBytes (b .state)
 replies b (choose light level plain exposure) = chooseBytes (b .state) light level plain exposure .answer
 replies b (place file) = placeBytes (b .state) (b .ram) file .answer
 
--- an answer's refusal number, and its value
-abbrev pub numberIn : ℕ → ℕ
-numberIn answer = answer / 4294967296
-
-abbrev pub valueIn : ℕ → ℕ
-valueIn answer = answer % 4294967296
-
 -- the count of running cycles that a call returned: a tick's value
 unfoldable pub countIn : Kept → Export → ℕ
 countIn b reset = 0
@@ -93,16 +99,6 @@ handsOn b (c ∷ cs) = handsOn (hands b c) cs
 unfoldable pub counted : Kept → List Export → ℕ
 counted b [] = 0
 counted b (c ∷ cs) = countIn b c + counted (hands b c) cs
-
--- whether a call is a reset
-unfoldable pub isReset : Export → Bool
-isReset reset = true
-isReset (read rom a) = false
-isReset (write image a v) = false
-isReset (tick n) = false
-isReset inspect = false
-isReset (choose light level plain exposure) = false
-isReset (place file) = false
 
 -- a call's numbers are of the widths that the function takes: a byte of 8 bits, cycles of 32
 unfoldable pub fits : Export → Bool

@@ -2,17 +2,16 @@
 use mathlib.Core.Path.{_≡_}
 use mathlib.Core.Bool.{Bool, true, false, not, _&&_, _||_}
 use mathlib.Core.List.{List, [], _∷_, _++_}
-use Prim.Native.Nat.{ℕ, _-_, _%_}
+use Prim.Native.Nat.{ℕ, _%_}
 use lib.Dec.{eqb}
 use lib.ListN.{getD, set}
 use Rattle.laws.specs.Pick.{pick}
 use Rattle.timing.specs.Timing.{totalOf}
 use Rattle.tiles.specs.Tiles.{areaOf, Bytes}
-use Rattle.placing.specs.Placing.{pixelsOf, placedByte}
 use Rattle.layout.specs.Layout.{registersAt, decoded}
-use Rattle.history.specs.Track.{inArea}
-use Rattle.history.specs.Seen.{goesTo, afresh}
-use Rattle.carried.specs.Exported.{Kept, Export, reset, read, write, tick, inspect, choose, place, atReset, hands, replies, numberIn, handsOn, counted, isReset}
+use Rattle.answers.specs.Packed.{numberIn}
+use Rattle.history.specs.Seen.{isReset, inArea, goesIn, byteIn, afresh}
+use Rattle.carried.specs.Exported.{Kept, Export, write, callOf, atReset, hands, replies, handsOn, counted}
 
 -- a capture is held: byte 4 of the state is 1
 abbrev pub heldIn : Kept → Bool
@@ -24,7 +23,7 @@ startShown b c = not (heldIn b) && heldIn (hands b c)
 
 -- an end is shown: a capture is held before a call that is no reset, and after it none is held
 unfoldable pub endShown : Kept → Export → Bool
-endShown b c = heldIn b && (not (isReset c) && not (heldIn (hands b c)))
+endShown b c = heldIn b && (not (isReset (callOf c)) && not (heldIn (hands b c)))
 
 -- a capture is held in what is handed to each of these calls, and in what the last one hands on
 unfoldable pub heldOn : Kept → List Export → Bool
@@ -35,15 +34,9 @@ heldOn b (c ∷ cs) = heldIn b && heldOn (hands b c) cs
 abbrev pub accepted : Kept → Export → Bool
 accepted b c = eqb (numberIn (replies b c)) 0
 
--- a bus write lands in a place: it is not refused, and goes there. A placing that is not refused counts as bus writes that landed all over the area
+-- a call lands in a place: its bytes go there, and it is not refused
 unfoldable pub landsShown : Kept → Export → ℕ → Bool
-landsShown b reset p = false
-landsShown b (read rom a) p = false
-landsShown b (write image a v) p = accepted b (write image a v) && goesTo (decoded (b .state)) (b .ram) a p
-landsShown b (tick n) p = false
-landsShown b inspect p = false
-landsShown b (choose light level plain exposure) p = false
-landsShown b (place file) p = accepted b (place file) && inArea p
+landsShown b c p = goesIn (decoded (b .state)) (b .ram) (callOf c) p && accepted b c
 
 -- one of these calls landed in this place
 unfoldable pub landedShown : ℕ → Kept → List Export → Bool
@@ -54,20 +47,10 @@ landedShown p b (c ∷ cs) = landsShown b c p || landedShown p (hands b c) cs
 abbrev pub AreaKept : Kept → List Export → Type 0
 AreaKept b cs = (p : ℕ) → inArea p ≡ true → landedShown p b cs ≡ false
 
--- the byte that a call brings to a place
-unfoldable pub broughtTo : Export → ℕ → ℕ
-broughtTo reset p = 0
-broughtTo (read rom a) p = 0
-broughtTo (write image a v) p = v
-broughtTo (tick n) p = 0
-broughtTo inspect p = 0
-broughtTo (choose light level plain exposure) p = 0
-broughtTo (place file) p = placedByte (pixelsOf file) (p - 0x100)
-
 -- the last byte that landed in this place, or else what it held at first
 unfoldable pub lastShown : ℕ → Kept → List Export → ℕ → ℕ
 lastShown p b [] first = first
-lastShown p b (c ∷ cs) first = lastShown p (hands b c) cs (pick (landsShown b c p) (broughtTo c p) first)
+lastShown p b (c ∷ cs) first = lastShown p (hands b c) cs (pick (landsShown b c p) (byteIn (callOf c) p) first)
 
 -- calls from reset on, split at a write that is shown to be a start and since which a capture is held all through
 pub record Begun (ram store : List ℕ) (calls : List Export) : Type 0 where
