@@ -1,7 +1,7 @@
 -- The table of each exported function: its rows by their numbers, and what a refusal answers and leaves. Assumes nothing.
 use mathlib.Core.Bool.{Bool, not, _&&_, _||_}
 use mathlib.Core.List.{List, [], _∷_}
-use Prim.Native.Nat.{ℕ, _/_}
+use Prim.Native.Nat.{ℕ}
 use lib.Dec.{eqb, ltb}
 use lib.ListN.{length}
 use Rattle.controller.specs.declared.Refusal.the-variants.{State, Room, Script}
@@ -13,13 +13,10 @@ use Rattle.readings.specs.Readings.{notHeld}
 use Rattle.script.specs.Text.{linesOf}
 use Rattle.salvaging.specs.Salvage.{cleaned}
 use Rattle.layout.specs.Layout.{isRecord, decoded}
-use Rattle.answers.specs.Packed.{packed}
+use Rattle.answers.specs.Packed.{packed, numberIn}
 use Rattle.embed.specs.Exports.{Called, called, Filled, filled, Reported, reported}
 
--- the number in an answer: what stands above 2^32
-abbrev pub numberIn : ℕ → ℕ
-numberIn answer = answer / 4294967296
-
+-- the number in an answer
 abbrev pub inCalled : Called → ℕ
 inCalled b = numberIn (b .answer)
 
