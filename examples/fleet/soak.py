@@ -36,8 +36,9 @@ from gulxinett import FRAME_BYTES, LAYOUT, PICTURE_BYTES, PICTURE_OFFSET, RAM_BA
 from worker import start
 
 BUS = ROOT / "target" / "native" / "bus"
-# How long a worker may be silent before it counts as hung, in seconds.
-SILENCE = 180
+# How often in a row a worker may be silent for how many seconds before it counts as hung; when the whole soak is stopped and
+# goes on later, that is one such time.
+SILENCES, SILENCE = 6, 30
 # A worker that is killed at a random moment is killed within this time of taking its first job, in seconds.
 SOON = 0.04
 # Jobs that are damaged at a time.
@@ -233,7 +234,7 @@ class Fleet:
         """One worker from its start to its end; the bytes it told, and how it ended."""
         with open(self.folder / "workers.log", "ab") as log:
             worker = subprocess.Popen(self.words(kind, seed, die), stdin=subprocess.DEVNULL, stdout=subprocess.PIPE, stderr=log)
-        told, out, kill_at = b"", worker.stdout.fileno(), None
+        told, out, kill_at, silent = b"", worker.stdout.fileno(), None, 0
         while True:
             wait = SILENCE if kill_at is None else max(0, kill_at - time.monotonic())
             ready = select.select([out], [], [], wait)[0]
@@ -242,9 +243,12 @@ class Fleet:
                 delay = kill_at = None
                 continue
             if not ready:
-                worker.kill()
-                self.wrong.append("a worker in %s was silent for %d seconds" % (kind, SILENCE))
+                silent += 1
+                if silent == SILENCES:
+                    worker.kill()
+                    self.wrong.append("a worker in %s was silent for %d seconds" % (kind, SILENCES * SILENCE))
                 continue
+            silent = 0
             piece = os.read(out, 65_536)
             if not piece:
                 break
@@ -431,6 +435,12 @@ def damage(fleet, database, chance, scenes, count):
 # ---- the whole
 
 
+def processor_seconds():
+    """What the processes that this one started, and that have ended, took of the processor."""
+    used = resource.getrusage(resource.RUSAGE_CHILDREN)
+    return used.ru_utime + used.ru_stime
+
+
 def soak(options, url, folder):
     """Runs, kills, judges and tells; true if all is as it must be."""
     scenes = patterns()
@@ -457,17 +467,17 @@ def soak(options, url, folder):
         other.connection.close()
 
     fleet = Fleet(options, url, folder, of_workers)
-    began = time.monotonic()
+    began, used = time.monotonic(), processor_seconds()
     fleet.run(fleet.slot, more_jobs)
     killed = time.monotonic()
     fleet.run(fleet.unkilled)
     finished = time.monotonic()
-    used = resource.getrusage(resource.RUSAGE_CHILDREN)
+    used = processor_seconds() - used
     count = judged(database)
     say("jobs: %d, kills: %d, saves: %d" % (count["jobs"], fleet.kills, count["saves"]))
     say("%.1f seconds with kills, %.1f to finish what was left, %.1f to look at every job; %d workers at a time, seed %d" % (
         killed - began, finished - killed, time.monotonic() - finished, options.workers, options.seed))
-    say("%.1f processor seconds of the workers" % (used.ru_utime + used.ru_stime))
+    say("processor seconds of the workers: %.1f" % used)
     say("kills of workers in " + ", ".join("%s: %d" % (kind, fleet.by_kind[kind]) for kind in options.kinds))
     for moment in dict.fromkeys(MOMENTS.values()):
         say("kills %s: %d" % (moment, fleet.moments[moment]))
