@@ -478,7 +478,7 @@ def soak(options, url, folder):
     say("%.1f seconds with kills, %.1f to finish what was left, %.1f to look at every job; %d workers at a time, seed %d" % (
         killed - began, finished - killed, time.monotonic() - finished, options.workers, options.seed))
     say("processor seconds of the workers: %.1f" % used)
-    say("kills of workers in " + ", ".join("%s: %d" % (kind, fleet.by_kind[kind]) for kind in options.kinds))
+    say("kills of workers in " + ", ".join("%s: %d" % (kind, fleet.by_kind[kind]) for kind in dict.fromkeys(options.kinds)))
     for moment in dict.fromkeys(MOMENTS.values()):
         say("kills %s: %d" % (moment, fleet.moments[moment]))
     say("jobs that both kinds of workers had in hand: %d; begun by one kind and finished by the other: %d" % (
@@ -519,7 +519,9 @@ def read_words(words):
     )
     reader.add_argument("--seed", type=int, default=1)
     reader.add_argument("--workers", type=int, default=4, help="workers at a time")
-    reader.add_argument("--kinds", default="python,c", help="python, c or both with a comma")
+    reader.add_argument(
+        "--kinds", default="python,c", help="python, c or both with a comma; one named twice is taken twice as often"
+    )
     reader.add_argument(
         "--break", dest="broken", choices=BREAKS, help="spoil the workers in Python, to see that the soak sees it"
     )
