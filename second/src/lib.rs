@@ -1,12 +1,12 @@
 //! The Game Boy Camera cartridge controller (MAC-GBD), written a second time from the paper alone (docs/RULES.md has its rules).
 //!
 //! [`State`] is the record the controller keeps; ROM, RAM, image and frame store are lent as slices.
-//! [`read`], [`write()`], [`tick`], [`inspect`] and [`picture`] are the calls, [`Session`] is the bus script,
-//! [`Frame::write_line`] writes its lines and [`salvage()`] cleans it. [`export`] makes a grey image of
-//! the picture area, [`place`] puts one back and [`shades`] reads the area; [`export_readings`] makes a
-//! grey image of the values before the dots, and [`import`] an image of a colour photograph.
-//! [`choose`] sets a contrast level by its number. [`save()`] and [`restore`] have state, RAM and frame store
-//! as one file, with a checksum, [`crc32`].
+//! [`read`], [`write()`], [`tick`], [`inspect`] and [`picture`] are the calls, [`Session`] is the bus script
+//! and [`step`] one line of it, [`Frame::write_line`] writes its lines and [`salvage()`] cleans it.
+//! [`export`] makes a grey image of the picture area, [`place`] puts one back and [`shades`] reads the
+//! area; [`export_readings`] makes a grey image of the values before the dots, and [`import`] an image
+//! of a colour photograph. [`choose`] sets a contrast level by its number. [`save()`] and [`restore`]
+//! have state, RAM and frame store as one file, with a checksum, [`crc32`].
 //!
 //! The modules from the bottom up, each of which uses only those named before it:
 //! sizes, refusal, levels, lines, crc, lent, picture, capture, state, bus, colour, desk, grey, save, script, salvage.
@@ -46,6 +46,6 @@ pub use picture::{
 pub use refusal::Refusal;
 pub use salvage::{salvage, Salvaged, LONGEST_SCRIPT};
 pub use save::{restore, save, SAVE_BYTES};
-pub use script::{Frame, Session};
+pub use script::{step, Frame, Session, LONGEST_ANSWER};
 pub use sizes::{FRAME_BYTES, RAM_BANK, REGISTERS, ROM_BANK, SENSOR_HEIGHT, SENSOR_WIDTH};
 pub use state::{State, LAYOUT, RECORD_BYTES};

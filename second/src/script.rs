@@ -1,12 +1,15 @@
 //! The bus script: one frame a line, one answer a line.
 
-use crate::bus::{read_judged, tick_judged, write_judged};
+use crate::bus::{read, read_judged, tick, tick_judged, write, write_judged};
+use crate::lent::check_frame;
 use crate::refusal::Refusal;
 use crate::sizes::{FRAME_BYTES, RAM_BANK, ROM_BANK, SENSOR_WIDTH};
 use crate::state::State;
 
 /// The last row of the image.
 const LAST_ROW: u8 = 0x7F;
+/// Bytes of the longest answer with its LF.
+pub const LONGEST_ANSWER: usize = 11;
 
 /// What a line asks for; a frame to be written may lend its pixels as a slice.
 #[derive(Clone, Copy, Debug, PartialEq, Eq)]
@@ -158,6 +161,73 @@ enum Answer {
     Cycles(u32),
 }
 
+/// Hands on an answer as a line with its LF.
+#[inline(always)]
+fn say<T>(answer: Result<Answer, Refusal>, put: impl FnOnce(&[u8]) -> T) -> T {
+    match answer {
+        Ok(Answer::Done) => put(b"00\n"),
+        Ok(Answer::Byte(byte)) => {
+            let [high, low] = digits(byte);
+            put(&[b'0', b'0', high, low, b'\n'])
+        }
+        Ok(Answer::Cycles(cycles)) => {
+            let mut line = *b"0000000000\n";
+            put_digits(&mut line[2..10], &cycles.to_be_bytes());
+            put(&line)
+        }
+        Err(refusal) => {
+            let [high, low] = digits(refusal.number());
+            put(&[high, low, b'\n'])
+        }
+    }
+}
+
+/// Plays a line, its LF left out, on a record and on memory that are lent, and puts the answer line
+/// at the start of a lent buffer, whose later bytes stay; returns the answer's length with its LF.
+///
+/// Only bytes that are no record and a buffer shorter than the longest answer are refused. What a
+/// call refuses is the line's answer.
+pub fn step(
+    record: &mut [u8],
+    rom: &[u8],
+    ram: &mut [u8],
+    store: &mut [u8],
+    image: &mut [u8],
+    line: &[u8],
+    out: &mut [u8],
+) -> Result<usize, Refusal> {
+    let mut state = State::from_bytes(record).ok_or(Refusal::State)?;
+    let out = out.get_mut(..LONGEST_ANSWER).ok_or(Refusal::Buffer)?;
+    let frame = take_apart(line).ok_or(Refusal::Line);
+    let answer = frame.and_then(|frame| match frame {
+        Frame::Reset => {
+            state = State::RESET;
+            Ok(Answer::Done)
+        }
+        Frame::Read { address } => read(&state, rom, ram, address).map(Answer::Byte),
+        Frame::Write { address, value } => {
+            write(&mut state, ram, store, image, address, value).map(|()| Answer::Done)
+        }
+        Frame::Tick { cycles } => tick(&mut state, ram, store, cycles).map(Answer::Cycles),
+        Frame::Row { row, pixels } => {
+            let pixels = read_pixels(pixels).ok_or(Refusal::Line)?;
+            check_frame(image)?;
+            put_row(image, row, &pixels);
+            Ok(Answer::Done)
+        }
+    });
+    record.copy_from_slice(&state.to_bytes());
+    Ok(say(answer, |line| {
+        out[..line.len()].copy_from_slice(line);
+        line.len()
+    }))
+}
+
+/// Puts a row into an image.
+fn put_row(image: &mut [u8], row: u8, pixels: &[u8; SENSOR_WIDTH]) {
+    image[usize::from(row) * SENSOR_WIDTH..][..SENSOR_WIDTH].copy_from_slice(pixels);
+}
+
 /// A controller with its memory, played line by line.
 #[derive(Debug)]
 pub struct Session {
@@ -183,22 +253,8 @@ impl Session {
     /// Plays a line, its LF left out and none if it was too long, and appends the answer line.
     pub fn answer(&mut self, line: Option<&[u8]>, out: &mut Vec<u8>) {
         let frame = line.and_then(take_apart).ok_or(Refusal::Line);
-        match frame.and_then(|frame| self.play(frame)) {
-            Ok(Answer::Done) => out.extend_from_slice(b"00\n"),
-            Ok(Answer::Byte(byte)) => {
-                let [high, low] = digits(byte);
-                out.extend_from_slice(&[b'0', b'0', high, low, b'\n']);
-            }
-            Ok(Answer::Cycles(cycles)) => {
-                let mut line = *b"0000000000\n";
-                put_digits(&mut line[2..10], &cycles.to_be_bytes());
-                out.extend_from_slice(&line);
-            }
-            Err(refusal) => {
-                let [high, low] = digits(refusal.number());
-                out.extend_from_slice(&[high, low, b'\n']);
-            }
-        }
+        let answer = frame.and_then(|frame| self.play(frame));
+        say(answer, |line| out.extend_from_slice(line));
     }
 
     /// Plays a frame; the memory here has the right sizes, and every state comes from reset.
@@ -223,7 +279,7 @@ impl Session {
             }
             Frame::Row { row, pixels } => {
                 let pixels = read_pixels(pixels).ok_or(Refusal::Line)?;
-                image[usize::from(row) * SENSOR_WIDTH..][..SENSOR_WIDTH].copy_from_slice(&pixels)
+                put_row(image, row, &pixels)
             }
         }
         Ok(Answer::Done)

@@ -12,4 +12,5 @@ mod readings;
 mod salvage;
 mod saves;
 mod slow;
+mod steps;
 mod written;
