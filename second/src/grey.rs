@@ -2,19 +2,15 @@
 
 use crate::lent::{check_frame, check_ram};
 use crate::picture::{
-    self, gather, Plate, OCTET, PICTURE_WIDTH, PIXELS, PLATE_AREA, PLATE_BYTES, TILE,
+    self, gather, tile_row, Plate, OCTET, PICTURE_WIDTH, PIXELS, PLATE_AREA, PLATE_BYTES, TILE,
 };
 use crate::refusal::Refusal;
 use crate::state::State;
-use std::ops::Range;
 
 /// What every file starts with.
 const HEADER: &[u8] = b"P5\n128 112\n255\n";
 /// Bytes of a file, header and pixels.
 pub const GREY_FILE_BYTES: usize = HEADER.len() + PIXELS;
-
-/// Bytes of the tiles beside each other.
-const TILE_ROW: usize = TILE * PICTURE_WIDTH / 8;
 
 /// A one in each of the eight bytes of a word.
 const ONES: u64 = u64::from_ne_bytes([1; OCTET]);
@@ -106,12 +102,6 @@ fn each_octet(plate: &[u8], pixels: &mut [u8], make: impl Fn(u64) -> u64) {
             octet.copy_from_slice(&make(shades).to_le_bytes());
         }
     }
-}
-
-/// Where the sixteen tiles lie that have some of a picture row.
-fn tile_row(y: usize) -> Range<usize> {
-    let first = TILE_ROW * (y / 8);
-    first..first + TILE_ROW
 }
 
 /// The bits of each byte as eight bytes of 0 or 1, bit 7 in the lowest; [`gather`] undoes it.

@@ -5,11 +5,12 @@
 //! and [`step`] one line of it, [`Frame::write_line`] writes its lines and [`salvage()`] cleans it.
 //! [`export`] makes a grey image of the picture area, [`place`] puts one back and [`shades`] reads the
 //! area; [`export_readings`] makes a grey image of the values before the dots, and [`import`] an image
-//! of a colour photograph. [`choose`] sets a contrast level by its number. [`save()`] and [`restore`]
-//! have state, RAM and frame store as one file, with a checksum, [`crc32`].
+//! of a colour photograph. [`judge()`] says which rows of a plate are those of a frame's own picture.
+//! [`choose`] sets a contrast level by its number. [`save()`] and [`restore`] have state, RAM and frame
+//! store as one file, with a checksum, [`crc32`].
 //!
 //! The modules from the bottom up, each of which uses only those named before it:
-//! sizes, refusal, levels, lines, crc, lent, picture, capture, state, bus, colour, desk, grey, save, script, salvage.
+//! sizes, refusal, levels, lines, crc, lent, picture, capture, state, bus, colour, desk, grey, judge, save, script, salvage.
 
 #![forbid(unsafe_code)]
 
@@ -19,6 +20,7 @@ mod colour;
 mod crc;
 mod desk;
 mod grey;
+mod judge;
 mod lent;
 mod levels;
 mod lines;
@@ -38,6 +40,7 @@ pub use colour::import;
 pub use crc::crc32;
 pub use desk::choose;
 pub use grey::{export, export_readings, place, shades, GREY_FILE_BYTES};
+pub use judge::judge;
 pub use levels::CONTRAST_LEVELS;
 pub use lines::{Lines, LONGEST_LINE};
 pub use picture::{

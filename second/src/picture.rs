@@ -32,6 +32,8 @@ pub type Plate = [u8; PLATE_BYTES];
 pub(crate) const OCTET: usize = 8;
 /// Bytes of a tile of 8 by 8 pixels.
 pub(crate) const TILE: usize = 16;
+/// Bytes of the tiles beside each other.
+const TILE_ROW: usize = TILE * PICTURE_WIDTH / OCTET;
 /// Edge ratios in quarters: 50, 75, 100, 125, 200, 300, 400 and 500 per cent.
 const RATIOS: [i16; 8] = [2, 3, 4, 5, 8, 12, 16, 20];
 /// Fewer pixels than this are drawn one by one: a row is worked out as a whole, which takes as long.
@@ -354,6 +356,12 @@ fn raised(value: i8) -> u8 {
 /// Where in the plate the two bytes lie that have a pixel.
 fn place(x: usize, y: usize) -> usize {
     TILE * (PICTURE_WIDTH / OCTET * (y / OCTET) + x / OCTET) + 2 * (y % OCTET)
+}
+
+/// Where the sixteen tiles lie that have some of a picture row.
+pub(crate) fn tile_row(y: usize) -> Range<usize> {
+    let first = TILE_ROW * (y / OCTET);
+    first..first + TILE_ROW
 }
 
 /// Puts the bits of a mask into two bytes of the plate.

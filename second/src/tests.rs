@@ -6,6 +6,7 @@ mod counts;
 mod desk;
 mod figures;
 mod grey;
+mod judge;
 mod lines;
 mod random;
 mod readings;
