@@ -110,12 +110,22 @@ pub(crate) fn write_judged(
             }
         }
         Area::Window(offset) => {
-            if state.ram_enabled && !state.busy() {
+            if state.takes_writes() {
                 ram[ram_place(state, ram, offset)] = value;
             }
         }
     }
     Ok(())
+}
+
+/// Where in RAM a write to an address lands, if it does.
+pub(crate) fn landing(state: &State, ram: &[u8], address: u16) -> Option<usize> {
+    match Area::of(address) {
+        Ok(Area::Window(offset)) if !state.shows_registers() && state.takes_writes() => {
+            Some(ram_place(state, ram, offset))
+        }
+        _ => None,
+    }
 }
 
 /// A write below 8000 sets the write enable, the ROM bank or the select, or does nothing.

@@ -2,7 +2,8 @@
 //!
 //! [`State`] is the record the controller keeps; ROM, RAM, image and frame store are lent as slices.
 //! [`read`], [`write()`], [`tick`], [`inspect`] and [`picture`] are the calls, [`Session`] is the bus script
-//! and [`step`] one line of it, [`Frame::write_line`] writes its lines and [`salvage()`] cleans it.
+//! and [`step`] one line of it, [`Frame::write_line`] writes its lines and [`salvage()`] cleans it;
+//! [`Audit`] plays a script and says what became of its captures.
 //! [`export`] makes a grey image of the picture area, [`place`] puts one back and [`shades`] reads the
 //! area; [`export_readings`] makes a grey image of the values before the dots, and [`import`] an image
 //! of a colour photograph. [`judge()`] says which rows of a plate are those of a frame's own picture.
@@ -10,10 +11,11 @@
 //! store as one file, with a checksum, [`crc32`].
 //!
 //! The modules from the bottom up, each of which uses only those named before it:
-//! sizes, refusal, levels, lines, crc, lent, picture, capture, state, bus, colour, desk, grey, judge, save, script, salvage.
+//! sizes, refusal, levels, lines, crc, lent, picture, capture, state, bus, colour, desk, grey, judge, save, script, salvage, audit.
 
 #![forbid(unsafe_code)]
 
+mod audit;
 mod bus;
 mod capture;
 mod colour;
@@ -34,6 +36,7 @@ mod state;
 #[cfg(test)]
 mod tests;
 
+pub use audit::Audit;
 pub use bus::{inspect, read, tick, write, Element};
 pub use capture::Timing;
 pub use colour::import;

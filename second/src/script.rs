@@ -1,7 +1,7 @@
 //! The bus script: one frame a line, one answer a line.
 
 use crate::bus::{read, read_judged, tick, tick_judged, write, write_judged};
-use crate::lent::check_frame;
+use crate::lent::{check_frame, check_ram};
 use crate::refusal::Refusal;
 use crate::sizes::{FRAME_BYTES, RAM_BANK, ROM_BANK, SENSOR_WIDTH};
 use crate::state::State;
@@ -22,7 +22,7 @@ pub enum Frame<Pixels = [u8; SENSOR_WIDTH]> {
 }
 
 /// The pixels of a row as they stand in a line.
-type Digits = [u8; 2 * SENSOR_WIDTH];
+pub(crate) type Digits = [u8; 2 * SENSOR_WIDTH];
 
 impl Frame {
     /// Takes a line apart, its LF left out; none if it is malformed.
@@ -41,7 +41,8 @@ impl Frame {
 }
 
 /// Takes a line apart but for the pixels of a row, which are left as they stand.
-fn take_apart(line: &[u8]) -> Option<Frame<&Digits>> {
+#[inline(always)]
+pub(crate) fn take_apart(line: &[u8]) -> Option<Frame<&Digits>> {
     match line {
         b"00" => Some(Frame::Reset),
         [b'0', b'1', rest @ ..] => Some(Frame::Read {
@@ -150,12 +151,12 @@ fn value(digit: u8) -> u8 {
 }
 
 /// A byte as two digits.
-fn digits(byte: u8) -> [u8; 2] {
+pub(crate) fn digits(byte: u8) -> [u8; 2] {
     [byte >> 4, byte & 15].map(|value| value + if value < 10 { b'0' } else { b'A' - 10 })
 }
 
 /// What an accepted line is answered besides 00.
-enum Answer {
+pub(crate) enum Answer {
     Done,
     Byte(u8),
     Cycles(u32),
@@ -231,20 +232,30 @@ fn put_row(image: &mut [u8], row: u8, pixels: &[u8; SENSOR_WIDTH]) {
 /// A controller with its memory, played line by line.
 #[derive(Debug)]
 pub struct Session {
-    state: State,
+    pub(crate) state: State,
     rom: Vec<u8>,
-    ram: Vec<u8>,
-    image: Vec<u8>,
+    pub(crate) ram: Vec<u8>,
+    pub(crate) image: Vec<u8>,
     store: Vec<u8>,
 }
 
 impl Session {
     /// One bank of ROM and RAM full of FF, image and frame store of 00, state reset.
     pub fn new() -> Self {
+        Session::of(vec![0xFF; RAM_BANK])
+    }
+
+    /// The same with a RAM that is given.
+    pub fn with_ram(ram: Vec<u8>) -> Result<Self, Refusal> {
+        check_ram(&ram)?;
+        Ok(Session::of(ram))
+    }
+
+    fn of(ram: Vec<u8>) -> Self {
         Session {
             state: State::RESET,
             rom: vec![0xFF; ROM_BANK],
-            ram: vec![0xFF; RAM_BANK],
+            ram,
             image: vec![0; FRAME_BYTES],
             store: vec![0; FRAME_BYTES],
         }
@@ -258,7 +269,8 @@ impl Session {
     }
 
     /// Plays a frame; the memory here has the right sizes, and every state comes from reset.
-    fn play(&mut self, frame: Frame<&Digits>) -> Result<Answer, Refusal> {
+    #[inline(always)]
+    pub(crate) fn play(&mut self, frame: Frame<&Digits>) -> Result<Answer, Refusal> {
         let Session {
             state,
             rom,

@@ -95,6 +95,11 @@ impl State {
         self.ram_select & SELECT_REGISTERS != 0
     }
 
+    /// A write to RAM lands, where the window shows RAM.
+    pub(crate) fn takes_writes(&self) -> bool {
+        self.ram_enabled && !self.busy()
+    }
+
     /// Stores register 0 and says whether that starts a capture.
     pub(crate) fn set_trigger(&mut self, value: u8) -> bool {
         self.registers[0] = value & 7;

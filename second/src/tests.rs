@@ -1,5 +1,6 @@
 //! Tests: the paper's figures and session, a slow reading of the paper, and the edges of everything.
 
+mod audits;
 mod calls;
 mod colour;
 mod counts;
