@@ -3,11 +3,13 @@
 //! `versus [CALLS [SEED]]` plays random histories and sweeps on both and compares every answer,
 //! state and lent byte. `versus script PROGRAM_A PROGRAM_B [SCRIPTS [SEED]]` feeds random scripts
 //! to two programs and compares what they print; each is named with its arguments in one word of
-//! the shell, apart by spaces. `versus answers FILE [CALLS [SEED]]` compares as the first does, and
+//! the shell, apart by spaces. `versus audit PROGRAM_A PROGRAM_B [RECORDINGS [SEED]]` compares so what
+//! two programs say of random recordings, each with the name of a battery save after its other
+//! arguments, or with none. `versus answers FILE [CALLS [SEED]]` compares as the first does, and
 //! writes every call with the second program's answer to a file, for another caller to replay.
 //!
 //! The modules from the bottom up, each of which uses only those named before it:
-//! call, random, shrink, script, files, sides, answers, lines, sweep, photos, plates, rows, salvages, saves, history.
+//! call, random, shrink, script, recordings, files, sides, answers, lines, sweep, photos, plates, rows, salvages, saves, history.
 
 #![forbid(unsafe_code)]
 
@@ -19,6 +21,7 @@ mod lines;
 mod photos;
 mod plates;
 mod random;
+mod recordings;
 mod rows;
 mod salvages;
 mod saves;
@@ -47,6 +50,8 @@ const SHOWN: usize = 3;
 const ANSWERED: u64 = 120_000;
 /// Scripts fed unless told otherwise.
 const SCRIPTS: u64 = 300;
+/// Recordings audited unless told otherwise.
+const RECORDINGS: u64 = 400;
 
 fn main() -> ExitCode {
     let arguments: Vec<String> = std::env::args().skip(1).collect();
@@ -57,6 +62,10 @@ fn main() -> ExitCode {
     let same = match arguments.first().map(String::as_str) {
         Some("script") => match (arguments.get(1..3), number(3, SCRIPTS), number(4, 1)) {
             (Some([a, b]), Some(scripts), Some(seed)) => script::compare(a, b, scripts, seed),
+            _ => return usage(),
+        },
+        Some("audit") => match (arguments.get(1..3), number(3, RECORDINGS), number(4, 1)) {
+            (Some([a, b]), Some(count), Some(seed)) => recordings::compare(a, b, count, seed),
             _ => return usage(),
         },
         Some("answers") => match (arguments.get(1), number(2, ANSWERED), number(3, 1)) {
@@ -78,6 +87,7 @@ fn main() -> ExitCode {
 fn usage() -> ExitCode {
     eprintln!("usage: versus [CALLS [SEED]]");
     eprintln!("       versus script PROGRAM_A PROGRAM_B [SCRIPTS [SEED]]");
+    eprintln!("       versus audit PROGRAM_A PROGRAM_B [RECORDINGS [SEED]]");
     eprintln!("       versus answers FILE [CALLS [SEED]]");
     ExitCode::from(2)
 }

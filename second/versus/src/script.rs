@@ -2,7 +2,7 @@
 
 use crate::random::Random;
 use crate::shrink::shrink;
-use std::io::{self, BufRead, BufReader, Read, Write};
+use std::io::{self, BufRead, BufReader, Write};
 use std::process::{Child, Command, Stdio};
 use std::sync::mpsc;
 use std::thread;
@@ -19,16 +19,8 @@ pub fn compare(a: &str, b: &str, scripts: u64, seed: u64) -> bool {
     for number in 0..scripts {
         let script = Script::random(&mut random, number);
         lines += script.lines.len();
-        match differs(a, b, &script) {
-            Ok(false) => {}
-            Ok(true) => {
-                show(a, b, script);
-                return false;
-            }
-            Err(error) => {
-                println!("a program can't be run: {error}");
-                return false;
-            }
+        if agreed(a, b, script).is_none() {
+            return false;
         }
     }
     let prompt = [a, b]
@@ -42,11 +34,21 @@ pub fn compare(a: &str, b: &str, scripts: u64, seed: u64) -> bool {
     prompt
 }
 
+/// What both programs print of a script; none, and the difference is shown, if they don't agree.
+pub fn agreed(a: &str, b: &str, script: Script) -> Option<Vec<u8>> {
+    match both(a, b, &script) {
+        Ok([a, b]) if a.same(&b) => return Some(a.printed),
+        Ok(_) => show(a, b, script),
+        Err(error) => println!("a program can't be run: {error}"),
+    }
+    None
+}
+
 /// A script and whether its last line ends in LF.
 #[derive(Clone)]
-struct Script {
-    lines: Vec<Vec<u8>>,
-    ended: bool,
+pub struct Script {
+    pub lines: Vec<Vec<u8>>,
+    pub ended: bool,
 }
 
 impl Script {
@@ -69,7 +71,8 @@ impl Script {
         }
     }
 
-    fn bytes(&self) -> Vec<u8> {
+    /// The script as it is fed.
+    pub fn bytes(&self) -> Vec<u8> {
         let mut bytes = self.lines.join(&b'\n');
         if self.ended && !self.lines.is_empty() {
             bytes.push(b'\n');
@@ -169,30 +172,49 @@ pub fn spoil(random: &mut Random, line: &mut Vec<u8>) {
 }
 
 /// Starts a program, named with its arguments in words apart by spaces, on pipes.
-fn start_program(program: &str) -> io::Result<Child> {
+fn start_program(program: &str, said: Stdio) -> io::Result<Child> {
     let mut words = program.split_whitespace();
     Command::new(words.next().unwrap_or_default())
         .args(words)
         .stdin(Stdio::piped())
         .stdout(Stdio::piped())
+        .stderr(said)
         .spawn()
 }
 
-/// What a program prints for some input, and whether it ends well.
-fn run(program: &str, input: Vec<u8>) -> io::Result<(Vec<u8>, bool)> {
-    let mut child = start_program(program)?;
-    let mut stdin = child.stdin.take().expect("its input is piped");
-    let mut stdout = child.stdout.take().expect("its output is piped");
-    // A program that ends early shows in its output.
-    let writer = thread::spawn(move || drop(stdin.write_all(&input)));
-    let mut output = Vec::new();
-    stdout.read_to_end(&mut output)?;
-    writer.join().expect("the writer ends");
-    Ok((output, child.wait()?.success()))
+/// What a program does with some input.
+struct Ran {
+    printed: Vec<u8>,
+    status: Option<i32>,
+    /// Its sentences about what is not as it must be.
+    said: Vec<u8>,
 }
 
-fn differs(a: &str, b: &str, script: &Script) -> io::Result<bool> {
-    Ok(run(a, script.bytes())? != run(b, script.bytes())?)
+impl Ran {
+    /// The same is printed, byte for byte, and both end alike; each has its own words for why.
+    fn same(&self, other: &Ran) -> bool {
+        self.printed == other.printed
+            && self.status == other.status
+            && self.said.is_empty() == other.said.is_empty()
+    }
+}
+
+fn run(program: &str, input: Vec<u8>) -> io::Result<Ran> {
+    let mut child = start_program(program, Stdio::piped())?;
+    let mut stdin = child.stdin.take().expect("its input is piped");
+    // A program that ends early shows in its output.
+    let writer = thread::spawn(move || drop(stdin.write_all(&input)));
+    let output = child.wait_with_output()?;
+    writer.join().expect("the writer ends");
+    Ok(Ran {
+        printed: output.stdout,
+        status: output.status.code(),
+        said: output.stderr,
+    })
+}
+
+fn both(a: &str, b: &str, script: &Script) -> io::Result<[Ran; 2]> {
+    Ok([run(a, script.bytes())?, run(b, script.bytes())?])
 }
 
 /// Shows the shortest script found that still differs.
@@ -207,7 +229,7 @@ fn show(a: &str, b: &str, script: Script) {
             lines: lines.to_vec(),
             ended,
         };
-        differs(a, b, &script).unwrap_or(false)
+        both(a, b, &script).is_ok_and(|[a, b]| !a.same(&b))
     };
     let lines = shrink(script.lines, fails);
     let script = Script { lines, ended };
@@ -218,14 +240,11 @@ fn show(a: &str, b: &str, script: Script) {
         .for_each(|line| println!("  {}", line.escape_ascii()));
     for program in [a, b] {
         match run(program, script.bytes()) {
-            Ok((output, well)) => println!(
-                "{program} {}:\n  {}",
-                if well {
-                    "prints"
-                } else {
-                    "ends badly and prints"
-                },
-                output.escape_ascii()
+            Ok(ran) => println!(
+                "{program} ends with {:?}, says {:?} and prints:\n  {}",
+                ran.status,
+                String::from_utf8_lossy(&ran.said),
+                ran.printed.escape_ascii()
             ),
             Err(error) => println!("{program}: {error}"),
         }
@@ -242,7 +261,7 @@ fn answers_before_it_waits(program: &str) -> bool {
 }
 
 fn prompt_answers(program: &str) -> io::Result<bool> {
-    let mut child = start_program(program)?;
+    let mut child = start_program(program, Stdio::inherit())?;
     let mut stdin = child.stdin.take().expect("its input is piped");
     let stdout = BufReader::new(child.stdout.take().expect("its output is piped"));
     let (sender, receiver) = mpsc::channel();
