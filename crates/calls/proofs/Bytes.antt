@@ -2,11 +2,11 @@
 use mathlib.Core.Path.{_≡_, refl, sym, ap, _∙_}
 use mathlib.Core.Bool.{Bool, true, false, not, _&&_}
 use mathlib.Core.List.{List, [], _∷_, _++_}
-use Prim.Native.Nat.{ℕ, zero, suc, _+_, _/_, _%_, _<_}
-use native.Mathlib.Nat.{zero-add, suc-add, add-zero}
+use Prim.Native.Nat.{ℕ, _+_, _-_, _/_, _%_, _<_}
+use native.Mathlib.Nat.{zero-add, suc-add}
 use native.Mathlib.Omega.{arith}
 use lib.Dec.{eqb}
-use lib.ListN.{length, getD, set, drop, length-drop}
+use lib.ListN.{length, getD, set, take, drop, length-drop}
 use lib.Seq.{set-append-left, length-take-le, getD-take, getD-drop}
 use Rattle.tiles.specs.Tiles.{Bytes}
 use Rattle.timing.specs.Timing.{totalOf}
@@ -28,6 +28,13 @@ use Rattle.calls.specs.Aside.{effect, inBytes}
 pub long : (s : List ℕ) → isRecord s ≡ true → length s ≡ 121
 long s h = record-parts s h .long
 
+-- the registers taken are all that stands from 67 on
+pub part-at : (s : List ℕ) → isRecord s ≡ true → take (length s - 67) (drop 67 s) ≡ registersAt s 67
+part-at s h = ap (λ (n : ℕ). take (n - 67) (drop 67 s)) (long s h)
+
+pub part-long : (s : List ℕ) → isRecord s ≡ true → length (take (length s - 67) (drop 67 s)) ≡ 54
+part-long s h = ap length (part-at s h) ∙ length-take-le 54 (drop 67 s) (simp length-drop (omega (arith, long s h)))
+
 module _ (s : List ℕ) where
   -- register 0
   first-at : getD (registersAt s 13) 0 0 ≡ getD s 13 0
@@ -46,10 +53,10 @@ module _ (s : List ℕ) where
   taken-at = refl
 
   -- the record can exist, by what is looked at
-  pub exists-at : (e : ℕ) → e ≡ fourAt s 5 → canExist (seen (getD s 2 0) (getD s 3 0) (getD s 13 0) (eqb (getD s 4 0) 1) (record { 0 = e }) (registersAt s 67)) ≡ canExist (decoded s)
+  pub exists-at : {e : ℕ} {regs : List ℕ} → e ≡ fourAt s 5 → regs ≡ registersAt s 67 → canExist (seen (getD s 2 0) (getD s 3 0) (getD s 13 0) (eqb (getD s 4 0) 1) (record { 0 = e }) regs) ≡ canExist (decoded s)
   unfolding decoded
-  exists-at e p =
-      ap (λ (x : ℕ). canExist (seen (getD s 2 0) (getD s 3 0) (getD s 13 0) (eqb (getD s 4 0) 1) (record { 0 = x }) (registersAt s 67))) p
+  exists-at p q =
+      (λ i. canExist (seen (getD s 2 0) (getD s 3 0) (getD s 13 0) (eqb (getD s 4 0) 1) (record { 0 = p i }) (q i)))
       ∙ ap not (looks-same (decoded s) (getD s 13 0) (sym first-at))
 
   -- the registers are selected; a capture is running

@@ -44,7 +44,7 @@ ghost use Rattle.cartridge.specs.Calls.{readMeans, wrote, writeMeans};
 ghost use Rattle.layout.specs.Layout.{isRecord, decoded, encoded};
 ghost use Rattle.calls.specs.Aside.{effect, inBytes};
 
-// Whether the record can exist.
+// Whether the record can exist. The registers taken are all that stands from 67 on.
 fn exists(state: &[u8]) -> bool
     requires { ⌜ isRecord (now state) ≡ true ⌝ }
     ensures { λ r. ⌜ r ≡ canExist (decoded (now (state .entry))) ⌝ }
@@ -56,7 +56,7 @@ fn exists(state: &[u8]) -> bool
         state[13],
         state[4] == 1,
         elapsed,
-        &state[67..121],
+        &state[67..],
     )
 }
 
