@@ -53,8 +53,9 @@ use Rattle.salvaging.specs.Salvage.{Salvaging, salvageRows, salvageDone, salvag
 use Rattle.salvaging.proofs.Cleaned.{cleaned-long, lines-few}
 use Rattle.salvaging.proofs.Outcomes.{salvage-long}
 use Rattle.layout.specs.Layout.{encoded, isRecord, decoded}
+use Rattle.calls.specs.Aside.{Effect, effect}
 use Rattle.answers.specs.Packed.{packed}
-use Rattle.embed.specs.Exports.{called, asBytes, noRecord, unread, resetBytes, readBytes, writeBytes, tickBytes, inspected, inspectBytes, filled, asDrawn, pictureBytes, asLine, recordBytes, asWritten, exportBytes, shadesBytes, placeBytes, readingsBytes, asRead, importBytes, plainIn, exposureIn, chooseBytes, reported, asReported, salvageBytes}
+use Rattle.embed.specs.Exports.{Called, called, asBytes, noRecord, unread, resetBytes, readBytes, writeBytes, tickBytes, inspected, inspectBytes, filled, asDrawn, pictureBytes, asLine, recordBytes, asWritten, exportBytes, shadesBytes, placeBytes, readingsBytes, asRead, importBytes, plainIn, exposureIn, chooseBytes, reported, asReported, salvageBytes}
 use Rattle.layout.proofs.Inverse.{encode-decode}
 
 -- what comes to a number is that refusal: for an outcome, the state given and every byte lent
@@ -71,6 +72,13 @@ module _ (s ram store : List ℕ) (bytes : Bytes s) (h : isRecord s ≡ true) {r
       let f : outcome (numberOf why) 0 c ram′ store′ ≡ outcome (numberOf why) 0 (decoded s) ram store = e ∙ k in
       (λ i. called (packed (numberOf why) 0) s (f i .ram) (f i .store))
       ∙ sym (ap asBytes k ∙ ap (λ t. called (packed (numberOf why) 0) t ram store) (encode-decode s bytes h))
+
+-- an effect of a call over bytes, with its number and value packed
+abbrev packedIn : Effect → Called
+packedIn x = called (packed (x .number) (x .value)) (x .state) (x .ram) (x .store)
+
+pub as-called : {n v p : ℕ} {t ram store : List ℕ} {x : Effect} {b : Called} → effect n v t ram store ≡ x → p ≡ packed n v → b ≡ packedIn x → called p t ram store ≡ b
+as-called {n} {v} {p} {t} {ram} {store} e q d = (λ i. called (q i) t ram store) ∙ ap packedIn e ∙ sym d
 
 -- ---- reset
 
@@ -101,26 +109,6 @@ module _ (s rom ram : List ℕ) (a : ℕ) where
   unfolding readBytes
   read-done h = simp h
 
-  module _ (bytes : Bytes s) (h : isRecord s ≡ true) (d : Controller) (r : ReadDone) (e : d ≡ decoded s) (means : readOutcome r ram ≡ readMeans d rom ram a) where
-    -- what the code answered is the meaning's outcome
-    read-is : (x : ReadAnswer) → r .answer ≡ x → outcome (readNumber x) (readValue x) (r .state) ram [] ≡ readMeans (decoded s) rom ram a
-    read-is x f = ap (λ y. outcome (readNumber y) (readValue y) (r .state) ram []) (sym f) ∙ means ∙ ap (λ c. readMeans c rom ram a) e
-
-    pub read-byte : (b : ℕ) → r .answer ≡ reads.Byte b → (p : ℕ) → p ≡ packed 0 b → called p s ram [] ≡ readBytes s rom ram a
-    read-byte b f p q =
-        let g : outcome 0 b (r .state) ram [] ≡ readMeans (decoded s) rom ram a = read-is (reads.Byte b) f in
-        let same : r .state ≡ decoded s = (λ i. g i .state) ∙ read-state (decoded s) rom ram a in
-        (λ i. called (q i) s ram [])
-        ∙ ap (λ t. called (packed 0 b) t ram []) (sym (ap encoded same ∙ encode-decode s bytes h))
-        ∙ ap asBytes g
-        ∙ sym (read-done h)
-
-    pub read-refusal : (why : Refusal) → r .answer ≡ reads.Refused why → (p : ℕ) → p ≡ packed (numberOf why) 0 → called p s ram [] ≡ readBytes s rom ram a
-    read-refusal why f p q =
-        (λ i. called (q i) s ram [])
-        ∙ unchanged s ram [] bytes h (read-refuses (decoded s) rom ram a) why (r .state) ram [] (read-is (reads.Refused why) f)
-        ∙ sym (read-done h)
-
 -- ---- write
 
 module _ (s ram store image : List ℕ) (a v : ℕ) where
@@ -132,19 +120,6 @@ module _ (s ram store image : List ℕ) (a v : ℕ) where
   unfolding writeBytes
   write-done h = simp h
 
-  module _ (h : isRecord s ≡ true) (d : Controller) (r : WriteDone) (ram′ store′ : List ℕ) (e : d ≡ decoded s) (means : writeOutcome r ram′ store′ ≡ writeMeans d ram store image a v) where
-    write-is : (x : WriteAnswer) → r .answer ≡ x → outcome (writeNumber x) 0 (r .state) ram′ store′ ≡ writeMeans (decoded s) ram store image a v
-    write-is x f = ap (λ y. outcome (writeNumber y) 0 (r .state) ram′ store′) (sym f) ∙ means ∙ ap (λ c. writeMeans c ram store image a v) e
-
-    pub write-wrote : r .answer ≡ writes.Done → (p : ℕ) (t : List ℕ) → p ≡ packed 0 0 → t ≡ encoded (r .state) → called p t ram′ store′ ≡ writeBytes s ram store image a v
-    write-wrote f p t q g = (λ i. called (q i) (g i) ram′ store′) ∙ ap asBytes (write-is writes.Done f) ∙ sym (write-done h)
-
-    pub write-refusal : Bytes s → (why : Refusal) → r .answer ≡ writes.Refused why → (p : ℕ) → p ≡ packed (numberOf why) 0 → called p s ram′ store′ ≡ writeBytes s ram store image a v
-    write-refusal bytes why f p q =
-        (λ i. called (q i) s ram′ store′)
-        ∙ unchanged s ram store bytes h (write-refuses (decoded s) ram store image a v) why (r .state) ram′ store′ (write-is (writes.Refused why) f)
-        ∙ sym (write-done h)
-
 -- ---- tick
 
 module _ (s ram store : List ℕ) (n : ℕ) where
@@ -155,19 +130,6 @@ module _ (s ram store : List ℕ) (n : ℕ) where
   pub tick-done : isRecord s ≡ true → tickBytes s ram store n ≡ asBytes (tickMeans (decoded s) ram store n)
   unfolding tickBytes
   tick-done h = simp h
-
-  module _ (h : isRecord s ≡ true) (d : Controller) (r : TickDone) (ram′ : List ℕ) (e : d ≡ decoded s) (means : tickOutcome r ram′ store ≡ tickMeans d ram store n) where
-    tick-is : (x : TickAnswer) → r .answer ≡ x → outcome (tickNumber x) (tickValue x) (r .state) ram′ store ≡ tickMeans (decoded s) ram store n
-    tick-is x f = ap (λ y. outcome (tickNumber y) (tickValue y) (r .state) ram′ store) (sym f) ∙ means ∙ ap (λ c. tickMeans c ram store n) e
-
-    pub tick-ran : (k : Cycles) → r .answer ≡ ticks.Ran k → (p : ℕ) (t : List ℕ) → p ≡ packed 0 (k .0) → t ≡ encoded (r .state) → called p t ram′ store ≡ tickBytes s ram store n
-    tick-ran k f p t q g = (λ i. called (q i) (g i) ram′ store) ∙ ap asBytes (tick-is (ticks.Ran k) f) ∙ sym (tick-done h)
-
-    pub tick-refusal : Bytes s → (why : Refusal) → r .answer ≡ ticks.Refused why → (p : ℕ) → p ≡ packed (numberOf why) 0 → called p s ram′ store ≡ tickBytes s ram store n
-    tick-refusal bytes why f p q =
-        (λ i. called (q i) s ram′ store)
-        ∙ unchanged s ram store bytes h (tick-refuses (decoded s) ram store n) why (r .state) ram′ store (tick-is (ticks.Refused why) f)
-        ∙ sym (tick-done h)
 
 -- ---- choice
 

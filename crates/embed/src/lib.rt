@@ -7,12 +7,12 @@ mod record;
 use answers::done_answer;
 use answers::output_answer;
 use answers::pack;
+use answers::read_answer;
 use answers::refused;
+use answers::tick_answer;
 use controller::Controller;
 use controller::Element;
-use controller::ReadAnswer;
 use controller::Refusal;
-use controller::TickAnswer;
 use controller::WriteAnswer;
 use desk::choice::Exposure;
 use desk::choice::choose;
@@ -50,12 +50,7 @@ pub extern "C" fn gulxinett_read(state: &[u8], rom: &[u8], ram: &[u8], address: 
     if !is_record(state) {
         return refused(Refusal::State);
     }
-    let done = cartridge::read(decode(state), rom, ram, address);
-    let answer = done.answer;
-    match answer {
-        ReadAnswer::Byte(b) => pack(0, wide(b)),
-        ReadAnswer::Refused(why) => refused(why),
-    }
+    read_answer(calls::read(state, rom, ram, address))
 }
 
 // Writes a byte to an address; a start puts the light of the image into the frame store.
@@ -73,16 +68,7 @@ pub extern "C" fn gulxinett_write(
     if !is_record(state) {
         return refused(Refusal::State);
     }
-    let done = cartridge::write(decode(state), ram, store, image, address, value);
-    let answer = done.answer;
-    match answer {
-        WriteAnswer::Done => {
-            let next = done.state;
-            encode(next, state);
-            pack(0, 0)
-        }
-        WriteAnswer::Refused(why) => refused(why),
-    }
+    done_answer(calls::write(state, ram, store, image, address, value))
 }
 
 // Lets cycles pass; it answers how many of them fell while a capture was running.
@@ -93,16 +79,7 @@ pub extern "C" fn gulxinett_tick(state: &mut [u8], ram: &mut [u8], store: &[u8],
     if !is_record(state) {
         return refused(Refusal::State);
     }
-    let done = capture::tick(decode(state), ram, store, cycles);
-    let answer = done.answer;
-    match answer {
-        TickAnswer::Ran(ran) => {
-            let next = done.state;
-            encode(next, state);
-            pack(0, ran.0)
-        }
-        TickAnswer::Refused(why) => refused(why),
-    }
+    tick_answer(calls::tick(state, ram, store, cycles))
 }
 
 // The exposure that a number names; above FFFF none.
