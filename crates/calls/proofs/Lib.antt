@@ -1,2 +1,3 @@
 -- Laws of calls over the bytes of a record.
 pub mod Bytes
+pub mod Left
