@@ -1,5 +1,6 @@
 -- One step of a session, frame by frame: laws of `rowTaken`, `frameStep` and `stepOf`. Assumes nothing.
 use mathlib.Core.Path.{_≡_, refl, ap, subst, _∙_}
+use mathlib.Core.Bool.{true}
 use mathlib.Core.List.{List, [], _++_}
 use Prim.Native.Nat.{ℕ, zero, suc, _+_, _-_, _*_, _≤_}
 use native.Mathlib.Numerals.{add-one}
@@ -10,12 +11,19 @@ use lib.Seq.{take-all}
 use Rattle.controller.specs.declared.Controller.{Controller}
 use Rattle.controller.specs.declared.Refusal.the-variants as refusals
 use Rattle.controller.specs.State.{resetState}
-use Rattle.controller.specs.Outcome.{numberOf}
-use Rattle.cartridge.specs.Calls.{readMeans, writeMeans}
+use Rattle.controller.specs.Outcome.{Outcome, numberOf}
+use Rattle.controller.specs.Table.{lowest}
+use Rattle.cartridge.specs.Calls.{readRows, readMeans, writeMeans}
+use Rattle.cartridge.proofs.Refusals.{read-refuses}
 use Rattle.capture.specs.Calls.{tickMeans}
 use Rattle.lines.specs.declared.line.Frame.{Frame}
 use Rattle.lines.specs.declared.line.Frame.the-variants.{Reset, Read, Write, Tick, Row, Malformed}
-use Rattle.script.specs.declared.session.Obeyed.{Obeyed}
+use Rattle.layout.specs.Layout.{isRecord, decoded}
+use Rattle.layout.proofs.Inverse.{Whole, encoded-record, decode-encode}
+use Rattle.calls.specs.Aside.{effect, inBytes}
+use Rattle.calls.proofs.Left.{decoded-whole}
+use Rattle.tiles.specs.Tiles.{Bytes}
+use Rattle.script.specs.declared.answer.Answer.{Answer}
 use Rattle.script.specs.declared.text.Reader.{Reader}
 use Rattle.lines.specs.Line.{numberAt, frameOf}
 use Rattle.lines.specs.Hex.{placed}
@@ -41,9 +49,9 @@ module _ (rom line : List ℕ) (c : Controller) (ram store image : List ℕ) whe
   unfolding stepOf
   says f e = ap (frameStep rom line before) e
 
-  pub says-reset : {d : Controller} → d ≡ resetState → Reset ≡ frameOf line → (t : List ℕ) → t ≡ answerText 0 0 0 → step (world d ram store image) t ≡ stepOf rom before line
+  pub says-reset : (s : List ℕ) → decoded s ≡ resetState → Reset ≡ frameOf line → (t : List ℕ) → t ≡ answerText 0 0 0 → step (world (decoded s) ram store image) t ≡ stepOf rom before line
   unfolding frameStep
-  says-reset p e t u = same _ _ _ _ _ _ _ _ _ _ p refl refl refl u ∙ says Reset e
+  says-reset s p e t u = same _ _ _ _ _ _ _ _ _ _ p refl refl refl u ∙ says Reset e
 
   pub says-malformed : Malformed ≡ frameOf line → (t : List ℕ) → t ≡ answerText (numberOf refusals.Line) 0 0 → step before t ≡ stepOf rom before line
   unfolding frameStep
@@ -53,17 +61,44 @@ module _ (rom line : List ℕ) (c : Controller) (ram store image : List ℕ) whe
   unfolding frameStep
   says-row y e image′ t p u = same _ _ _ _ _ _ _ _ _ _ refl refl refl p u ∙ says (Row y) e
 
-  pub says-read : (a : ℕ) → Read a ≡ frameOf line → (r : Obeyed) → Obeys 2 (readMeans c rom ram a) r ram [] → step (world (r .state) ram store image) (textOf (r .answer)) ≡ stepOf rom before line
+  pub says-read : (a : ℕ) → Read a ≡ frameOf line → (s : List ℕ) (r : Answer) → Obeys 2 (readMeans c rom ram a) s r ram [] → step (world (decoded s) ram store image) (textOf r) ≡ stepOf rom before line
   unfolding frameStep
-  says-read a e r o = same _ _ _ _ _ _ _ _ _ _ (o .state) (o .ram) refl refl (o .text) ∙ says (Read a) e
+  says-read a e s r o = same _ _ _ _ _ _ _ _ _ _ (o .state) (o .ram) refl refl (o .text) ∙ says (Read a) e
 
-  pub says-write : (a v : ℕ) → Write a v ≡ frameOf line → (r : Obeyed) (ram′ store′ : List ℕ) → Obeys 0 (writeMeans c ram store image a v) r ram′ store′ → step (world (r .state) ram′ store′ image) (textOf (r .answer)) ≡ stepOf rom before line
+  pub says-write : (a v : ℕ) → Write a v ≡ frameOf line → (s : List ℕ) (r : Answer) (ram′ store′ : List ℕ) → Obeys 0 (writeMeans c ram store image a v) s r ram′ store′ → step (world (decoded s) ram′ store′ image) (textOf r) ≡ stepOf rom before line
   unfolding frameStep
-  says-write a v e r ram′ store′ o = same _ _ _ _ _ _ _ _ _ _ (o .state) (o .ram) (o .store) refl (o .text) ∙ says (Write a v) e
+  says-write a v e s r ram′ store′ o = same _ _ _ _ _ _ _ _ _ _ (o .state) (o .ram) (o .store) refl (o .text) ∙ says (Write a v) e
 
-  pub says-tick : (n : ℕ) → Tick n ≡ frameOf line → (r : Obeyed) (ram′ : List ℕ) → Obeys 8 (tickMeans c ram store n) r ram′ store → step (world (r .state) ram′ store image) (textOf (r .answer)) ≡ stepOf rom before line
+  pub says-tick : (n : ℕ) → Tick n ≡ frameOf line → (s : List ℕ) (r : Answer) (ram′ : List ℕ) → Obeys 8 (tickMeans c ram store n) s r ram′ store → step (world (decoded s) ram′ store image) (textOf r) ≡ stepOf rom before line
   unfolding frameStep
-  says-tick n e r ram′ o = same _ _ _ _ _ _ _ _ _ _ (o .state) (o .ram) (o .store) refl (o .text) ∙ says (Tick n) e
+  says-tick n e s r ram′ o = same _ _ _ _ _ _ _ _ _ _ (o .state) (o .ram) (o .store) refl (o .text) ∙ says (Tick n) e
+
+-- a read changes no state
+read-keeps : (c : Controller) (rom ram : List ℕ) (a : ℕ) → readMeans c rom ram a .state ≡ c
+read-keeps c rom ram a = by-number (lowest (readRows c rom ram a)) refl
+  where
+    by-number : (n : ℕ) → lowest (readRows c rom ram a) ≡ n → readMeans c rom ram a .state ≡ c
+    by-number zero e = λ i. read-refuses c rom ram a .does e i .state
+    by-number (suc k) e = λ i. read-refuses c rom ram a .kept k e i .state
+
+pub read-whole : (s rom ram : List ℕ) (a : ℕ) → Bytes s → isRecord s ≡ true → Whole (readMeans (decoded s) rom ram a .state)
+read-whole s rom ram a b h = rw (read-keeps (decoded s) rom ram a) (decoded-whole s b h)
+
+pub reset-whole : Whole resetState
+unfolding resetState
+reset-whole = record { registers = refl; taken = refl; elapsed = omega arith; started = omega arith; ended = omega arith }
+
+-- a call over bytes: what is left is a record, and reads as the state left
+pub obeys-left : (digits : ℕ) (o : Outcome) (s : List ℕ) (a : Answer) (n v : ℕ) (ram store : List ℕ) → effect n v s ram store ≡ inBytes o → Whole (o .state)
+    → textOf a ≡ answerText n digits v → a .digits ≤ 8 → Obeys digits o s a ram store
+obeys-left digits o s a n v ram store e w t few = record {
+  is = ap isRecord (λ i. e i .state) ∙ encoded-record (o .state) w;
+  state = ap decoded (λ i. e i .state) ∙ decode-encode (o .state) w;
+  ram = (λ i. e i .ram);
+  store = (λ i. e i .store);
+  text = t ∙ (λ i. answerText (e i .number) digits (e i .value));
+  few = few;
+}
 
 said-alike : (w w′ : World) (t t′ : List ℕ) (n n′ : ℕ) → w ≡ w′ → t ≡ t′ → n ≡ n′ → _≡_ {A = Saying} (record { world = w; text = t; length = n }) (record { world = w′; text = t′; length = n′ })
 said-alike w w′ t t′ n n′ p q r = cc
@@ -98,3 +133,8 @@ saying-is s w out n p =
     p .text ∙ ap (λ k. s .text ++ drop k (replicate 11 0)) (zero-add (length (s .text))) ∙ ap (λ r. s .text ++ r) (drop-zeros 11 (length (s .text))) in
     let l : n ≡ length (s .text) = p .end ∙ zero-add (length (s .text)) in
     said-alike _ _ _ _ _ _ (p .world) t l
+
+-- the same, with the state as it is read back
+pub said-back : (s t : Step) (c d : Controller) (ram store image out : List ℕ) (n : ℕ) → c ≡ d → s ≡ t → Printed s (world d ram store image) (replicate 11 0) 0 out n
+    → _≡_ {A = Saying} (record { world = world c ram store image; text = out; length = n }) (saying t)
+said-back s t c d ram store image out n e f p = said-alike _ _ _ _ _ _ (ap (λ x. world x ram store image) e) refl refl ∙ saying-is s (world d ram store image) out n p ∙ ap saying f

@@ -1,22 +1,25 @@
 -- What the functions promise of a step, in terms of its meaning. Assumes nothing.
 use mathlib.Core.Path.{_≡_}
+use mathlib.Core.Bool.{true}
 use mathlib.Core.List.{List, _++_}
 use Prim.Native.Nat.{ℕ, _+_, _-_, _<_, _≤_}
 use lib.ListN.{length, getD, replicate}
 use Rattle.controller.specs.Outcome.{Outcome}
-use Rattle.script.specs.declared.session.Obeyed.{Obeyed}
+use Rattle.layout.specs.Layout.{isRecord, decoded}
+use Rattle.script.specs.declared.answer.Answer.{Answer}
 use Rattle.script.specs.declared.session.Stepped.{Stepped}
 use Rattle.lines.specs.Hex.{placed}
 use Rattle.script.specs.Answer.{answerText, textOf}
 use Rattle.script.specs.Session.{World, Step, world}
 
--- a call's outcome, with its value in so many digits
-pub record Obeys (digits : ℕ) (o : Outcome) (r : Obeyed) (ram′ store′ : List ℕ) : Type 0 where
-  pub state : r .state ≡ o .state
+-- a call's outcome, with its state as a record's bytes and its value in so many digits
+pub record Obeys (digits : ℕ) (o : Outcome) (s : List ℕ) (a : Answer) (ram′ store′ : List ℕ) : Type 0 where
+  pub is : isRecord s ≡ true
+  pub state : decoded s ≡ o .state
   pub ram : ram′ ≡ o .ram
   pub store : store′ ≡ o .store
-  pub text : textOf (r .answer) ≡ answerText (o .number) digits (o .value)
-  pub few : r .answer .digits ≤ 8
+  pub text : textOf a ≡ answerText (o .number) digits (o .value)
+  pub few : a .digits ≤ 8
 
 -- a step's world, and its text put into a buffer
 pub record Printed (s : Step) (w : World) (out : List ℕ) (at : ℕ) (out′ : List ℕ) (at′ : ℕ) : Type 0 where

@@ -6,6 +6,8 @@ use controller::ReadAnswer;
 use controller::Refusal;
 use controller::TickAnswer;
 use controller::WriteAnswer;
+use layout::decode;
+use layout::encode;
 use lines::line::Frame;
 use lines::line::byte_at;
 use lines::line::frame_of;
@@ -17,16 +19,12 @@ ghost use lib.ListN.{length};
 ghost use Rattle.controller.specs.Outcome.{numberOf, readNumber, readValue, writeNumber, tickNumber, tickValue};
 ghost use Rattle.cartridge.specs.Calls.{readMeans, writeMeans};
 ghost use Rattle.capture.specs.Calls.{tickMeans};
+ghost use Rattle.controller.specs.State.{resetState};
+ghost use Rattle.layout.specs.Layout.{isRecord, decoded};
 ghost use Rattle.lines.specs.Line.{hexPart, frameOf};
 ghost use Rattle.script.specs.Answer.{answerText, textOf};
 ghost use Rattle.script.specs.Session.{world, step, rowTaken, rowImage, rowText, stepOf};
 ghost use Rattle.script.specs.Said.{Obeys, Printed, said, saying};
-
-// The state after a line, and its answer.
-pub struct Obeyed {
-    pub state: Controller,
-    pub answer: Answer,
-}
 
 // A refusal prints its number alone.
 fn refused(r: Refusal) -> Answer
@@ -101,49 +99,52 @@ fn take_row(image: &mut [u8], line: &[u8], y: usize)
 }
 
 // A read, and the byte.
-fn do_read(state: Controller, rom: &[u8], ram: &[u8], address: u16) -> Obeyed
-    ensures { λ r. ⌜ Obeys 2 (readMeans state (now (rom .entry)) (now (ram .entry)) address) r (now (ram .entry)) [] ⌝ }
+fn do_read(state: &[u8], rom: &[u8], ram: &[u8], address: u16) -> Answer
+    requires { ⌜ isRecord (now state) ≡ true ⌝ }
+    ensures { λ r. ⌜ Obeys 2 (readMeans (decoded (now (state .entry))) (now (rom .entry)) (now (ram .entry)) address) (now (state .entry)) r (now (ram .entry)) [] ⌝ }
 {
-    let done = cartridge::read(state, rom, ram, address);
-    let next = done.state;
-    let answer = done.answer;
-    Obeyed {
-        state: next,
-        answer: read_answer(answer),
-    }
+    read_answer(calls::read(state, rom, ram, address))
 }
 
 // A write.
 fn do_write(
-    state: Controller,
+    state: &mut [u8],
     ram: &mut [u8],
     store: &mut [u8],
     image: &[u8],
     address: u16,
     value: u8,
-) -> Obeyed
-    ensures { λ r. ⌜ Obeys 0 (writeMeans state (now (ram .entry)) (now (store .entry)) (now (image .entry)) address value) r (now (ram .exit)) (now (store .exit)) ⌝ }
+) -> Answer
+    requires { ⌜ isRecord (now state) ≡ true ⌝ }
+    ensures { λ r. ⌜ Obeys 0 (writeMeans (decoded (now (state .entry))) (now (ram .entry)) (now (store .entry)) (now (image .entry)) address value) (now (state .exit)) r (now (ram .exit)) (now (store .exit)) ⌝ }
 {
-    let done = cartridge::write(state, ram, store, image, address, value);
-    let next = done.state;
-    let answer = done.answer;
-    Obeyed {
-        state: next,
-        answer: write_answer(answer),
-    }
+    write_answer(calls::write(state, ram, store, image, address, value))
 }
 
 // A tick, and the running cycles.
-fn do_tick(state: Controller, ram: &mut [u8], store: &[u8], n: u32) -> Obeyed
-    ensures { λ r. ⌜ Obeys 8 (tickMeans state (now (ram .entry)) (now (store .entry)) n) r (now (ram .exit)) (now (store .entry)) ⌝ }
+fn do_tick(state: &mut [u8], ram: &mut [u8], store: &[u8], n: u32) -> Answer
+    requires { ⌜ isRecord (now state) ≡ true ⌝ }
+    ensures { λ r. ⌜ Obeys 8 (tickMeans (decoded (now (state .entry))) (now (ram .entry)) (now (store .entry)) n) (now (state .exit)) r (now (ram .exit)) (now (store .entry)) ⌝ }
 {
-    let done = capture::tick(state, ram, store, n);
-    let next = done.state;
-    let answer = done.answer;
-    Obeyed {
-        state: next,
-        answer: tick_answer(answer),
-    }
+    tick_answer(calls::tick(state, ram, store, n))
+}
+
+// A state as its record's bytes.
+pub(crate) fn bytes_of(c: Controller) -> [u8; 121]
+    ensures { λ r. ⌜ (isRecord r ≡ true) × (decoded r ≡ c) ⌝ }
+{
+    let mut bytes = [0u8; 121];
+    encode(c, &mut bytes);
+    bytes
+}
+
+// The reset state in a record's bytes.
+fn do_reset(state: &mut [u8]) -> Answer
+    requires { ⌜ isRecord (now state) ≡ true ⌝ }
+    ensures { λ a. ⌜ (isRecord (now (state .exit)) ≡ true) × (decoded (now (state .exit)) ≡ resetState) × (textOf a ≡ answerText 0 0 0) × (a .digits ≤ 8) ⌝ }
+{
+    encode(Controller::reset(), state);
+    done()
 }
 
 // An image row: refused where the image is not 16,384 bytes.
@@ -160,44 +161,30 @@ fn do_row(image: &mut [u8], line: &[u8], y: u8) -> Answer
 
 // Carries out a line.
 pub(crate) fn obey(
-    state: Controller,
+    state: &mut [u8],
     rom: &[u8],
     ram: &mut [u8],
     store: &mut [u8],
     image: &mut [u8],
     line: &[u8],
-) -> Obeyed
-    ensures { λ r. ⌜ (step (world (r .state) (now (ram .exit)) (now (store .exit)) (now (image .exit))) (textOf (r .answer)) ≡ stepOf (now (rom .entry)) (world state (now (ram .entry)) (now (store .entry)) (now (image .entry))) (now (line .entry))) × (r .answer .digits ≤ 8) ⌝ }
+) -> Answer
+    requires { ⌜ isRecord (now state) ≡ true ⌝ }
+    ensures { λ a. ⌜ (step (world (decoded (now (state .exit))) (now (ram .exit)) (now (store .exit)) (now (image .exit))) (textOf a) ≡ stepOf (now (rom .entry)) (world (decoded (now (state .entry))) (now (ram .entry)) (now (store .entry)) (now (image .entry))) (now (line .entry))) × (isRecord (now (state .exit)) ≡ true) × (a .digits ≤ 8) ⌝ }
 {
     let frame = frame_of(line);
     match frame {
-        Frame::Reset => Obeyed {
-            state: Controller::reset(),
-            answer: done(),
-        },
+        Frame::Reset => do_reset(state),
         Frame::Read(a) => do_read(state, rom, ram, a),
         Frame::Write(a, v) => do_write(state, ram, store, image, a, v),
         Frame::Tick(n) => do_tick(state, ram, store, n),
-        Frame::Row(y) => Obeyed {
-            state,
-            answer: do_row(image, line, y),
-        },
-        Frame::Malformed => Obeyed {
-            state,
-            answer: refused(Refusal::Line),
-        },
+        Frame::Row(y) => do_row(image, line, y),
+        Frame::Malformed => refused(Refusal::Line),
     }
 }
 
-// The state after a line, and where its answer ends in the buffer.
-pub struct LineDone {
-    pub state: Controller,
-    pub end: usize,
-}
-
-// Carries out a line and puts its answer into a buffer.
+// Carries out a line and puts its answer into a buffer, and returns where it ends.
 pub(crate) fn line_done(
-    state: Controller,
+    state: &mut [u8],
     rom: &[u8],
     ram: &mut [u8],
     store: &mut [u8],
@@ -205,15 +192,12 @@ pub(crate) fn line_done(
     line: &[u8],
     out: &mut [u8],
     at: usize,
-) -> LineDone
-    requires { ⌜ at + 11 ≤ length (now out) ⌝ }
-    ensures { λ r. ⌜ Printed (stepOf (now (rom .entry)) (world state (now (ram .entry)) (now (store .entry)) (now (image .entry))) (now (line .entry))) (world (r .state) (now (ram .exit)) (now (store .exit)) (now (image .exit))) (now (out .entry)) at (now (out .exit)) (r .end) ⌝ }
+) -> usize
+    requires { ⌜ (isRecord (now state) ≡ true) × (at + 11 ≤ length (now out)) ⌝ }
+    ensures { λ r. ⌜ Printed (stepOf (now (rom .entry)) (world (decoded (now (state .entry))) (now (ram .entry)) (now (store .entry)) (now (image .entry))) (now (line .entry))) (world (decoded (now (state .exit))) (now (ram .exit)) (now (store .exit)) (now (image .exit))) (now (out .entry)) at (now (out .exit)) r × (isRecord (now (state .exit)) ≡ true) ⌝ }
 {
-    let obeyed = obey(state, rom, ram, store, image, line);
-    let next = obeyed.state;
-    let answer = obeyed.answer;
-    let end = put_answer(out, at, answer);
-    LineDone { state: next, end }
+    let answer = obey(state, rom, ram, store, image, line);
+    put_answer(out, at, answer)
 }
 
 // A line's answer: so many of the bytes of `text`, and the others 0.
@@ -235,11 +219,12 @@ pub fn step(
     ensures { λ r. ⌜ (said r (now (ram .exit)) (now (store .exit)) (now (image .exit)) ≡ saying (stepOf (now (rom .entry)) (world state (now (ram .entry)) (now (store .entry)) (now (image .entry))) (now (line .entry)))) × (r .length ≤ 11) ⌝ }
 {
     let mut text = [0u8; 11];
-    let done = line_done(state, rom, ram, store, image, line, &mut text, 0);
-    let next = done.state;
+    let mut bytes = bytes_of(state);
+    let length = line_done(&mut bytes, rom, ram, store, image, line, &mut text, 0);
+    let next = decode(&bytes);
     Stepped {
         state: next,
         text,
-        length: done.end,
+        length,
     }
 }

@@ -1,16 +1,18 @@
 // A text to its answers, read in pieces that may be cut anywhere.
 use super::answer::ANSWER;
-use super::session::LineDone;
 use super::session::Stepped;
+use super::session::bytes_of;
 use super::session::line_done;
 use super::session::step;
 use controller::Controller;
+use layout::decode;
 ghost use mathlib.Core.Path.{_≡_};
-ghost use mathlib.Core.Bool.{_&&_};
+ghost use mathlib.Core.Bool.{true, _&&_};
 ghost use mathlib.Core.List.{_++_};
 ghost use Prim.Native.Nat.{_+_, _-_, _≤_, min};
 ghost use lib.Dec.{leb, ltb};
 ghost use lib.ListN.{length, take};
+ghost use Rattle.layout.specs.Layout.{isRecord, decoded};
 ghost use Rattle.lines.specs.Hex.{placed};
 ghost use Rattle.script.specs.Session.{world, stepOf};
 ghost use Rattle.script.specs.Said.{Ends, Printed, said, saying};
@@ -97,7 +99,7 @@ fn line_end(piece: &[u8], from: usize) -> usize
 // Carries out a line of which the first bytes are held and the others stand in the piece, and puts its answer into a
 // buffer. Where none is held the line is read where it stands.
 fn end_line(
-    state: Controller,
+    state: &mut [u8],
     rom: &[u8],
     ram: &mut [u8],
     store: &mut [u8],
@@ -107,9 +109,9 @@ fn end_line(
     rest: &[u8],
     out: &mut [u8],
     at: usize,
-) -> LineDone
-    requires { ⌜ (length (now line) ≡ 261) × (held ≤ 261) × (at + 11 ≤ length (now out)) ⌝ }
-    ensures { λ r. ⌜ Printed (stepOf (now (rom .entry)) (world state (now (ram .entry)) (now (store .entry)) (now (image .entry))) (take 261 (take held (now (line .entry)) ++ now (rest .entry)))) (world (r .state) (now (ram .exit)) (now (store .exit)) (now (image .exit))) (now (out .entry)) at (now (out .exit)) (r .end) ⌝ }
+) -> usize
+    requires { ⌜ (isRecord (now state) ≡ true) × (length (now line) ≡ 261) × (held ≤ 261) × (at + 11 ≤ length (now out)) ⌝ }
+    ensures { λ r. ⌜ Printed (stepOf (now (rom .entry)) (world (decoded (now (state .entry))) (now (ram .entry)) (now (store .entry)) (now (image .entry))) (take 261 (take held (now (line .entry)) ++ now (rest .entry)))) (world (decoded (now (state .exit))) (now (ram .exit)) (now (store .exit)) (now (image .exit))) (now (out .entry)) at (now (out .exit)) r × (isRecord (now (state .exit)) ≡ true) ⌝ }
 {
     if held == 0 {
         return line_done(state, rom, ram, store, image, rest, out, at);
@@ -144,13 +146,13 @@ pub fn feed(
 {
     let mut line = reader.line;
     let mut held = at_most(reader.held, HELD);
-    let mut now = state;
+    let mut bytes = bytes_of(state);
     let mut at = 0;
     let mut i = 0;
     let mut end = line_end(piece, 0);
     while answered(end, piece, out.len() - at) {
-        let done = end_line(
-            now,
+        at = end_line(
+            &mut bytes,
             rom,
             ram,
             store,
@@ -161,17 +163,16 @@ pub fn feed(
             out,
             at,
         );
-        now = done.state;
-        at = done.end;
         held = 0;
         i = end + 1;
         end = line_end(piece, i);
     }
     held = hold(&mut line, held, &piece[i..end]);
     let rest = holding(line, held);
+    let next = decode(&bytes);
     Fed {
         reader: rest,
-        state: now,
+        state: next,
         used: end,
         written: at,
     }

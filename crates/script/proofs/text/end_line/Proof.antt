@@ -3,6 +3,7 @@ use mathlib.Core.Path.{sym, ap, _∙_}
 use native.Mathlib.Omega.{arith}
 use lib.ListN.{take}
 use lib.Seq.{length-take-le}
+use Rattle.layout.specs.Layout.{decoded}
 use Rattle.script.specs.Session.{world, stepOf}
 use Rattle.script.proofs.Feeds.{held-on}
 use Rattle.script.proofs.Steps.{printed-as}
@@ -26,10 +27,14 @@ same-length-3 c = search needs
 same-length-4 : tie.Need-same-length-4
 same-length-4 c = search needs
 
+same-length-5 : tie.Need-same-length-5
+same-length-5 c = search needs
+
 returns : tie.Need-returns
 returns c =
-    let a = c .before .before .before .before .before .before .before .before .before .before .before .before .before .before .before .before .before .before .before .before .before .args in
-    printed-as (as-it-stands _ _ (a .line .now) (a .rest .now) (a .held) (c .before .before .before .before .before .before .before .before .before .before .before .before .before .if1 .taken)) (c .before .before .before .before .before .before .before .before .line-done .ensures)
+    let a = c .before .before .before .before .before .before .before .before .before .before .before .before .before .before .before .before .before .before .before .before .before .before .before .before .before .args in
+    let d = c .before .before .before .before .before .before .before .before .before .before .line-done .ensures in
+    (printed-as (as-it-stands _ _ (a .line .now) (a .rest .now) (a .held) (c .before .before .before .before .before .before .before .before .before .before .before .before .before .before .before .before .if1 .taken)) (d .0), d .1)
 
 hold-requires : tie.Need-hold-requires
 hold-requires c κs = search needs
@@ -39,14 +44,11 @@ slice-reshare-prefix-line-done c = search needs
 
 slice-aggregate-line-done : tie.Need-slice-aggregate-line-done
 slice-aggregate-line-done c =
-    let h = c .before .before .before .before .before .before .hold in
-    sym (length-take-le _ _ (omega (arith, h .ensures, h .kept .0, c .before .before .before .before .before .before .before .before .before .before .before .before .before .before .before .before .pre)))
+    let h = c .before .before .before .before .before .before .before .hold in
+    sym (length-take-le _ _ (omega (arith, h .ensures, h .kept .0, c .before .before .before .before .before .before .before .before .before .before .before .before .before .before .before .before .before .before .pre .1)))
 
 line-done-requires-2 : tie.Need-line-done-requires-2
 line-done-requires-2 c κs = search needs
-
-same-length-5 : tie.Need-same-length-5
-same-length-5 c = search needs
 
 same-length-6 : tie.Need-same-length-6
 same-length-6 c = search needs
@@ -60,13 +62,21 @@ same-length-8 c = search needs
 same-length-9 : tie.Need-same-length-9
 same-length-9 c = search needs
 
+same-length-10 : tie.Need-same-length-10
+same-length-10 c = search needs
+
+same-length-11 : tie.Need-same-length-11
+same-length-11 c = search needs
+
 returns-2 : tie.Need-returns-2
 returns-2 c =
-    let s = c .before .before .before .before .before .before .before .before .before .before .before .before .before .before .before .before .before .before .before .before .before .before .before .before .before .before in
+    let s = c .before .before .before .before .before .before .before .before .before .before .before .before .before .before .before .before .before .before .before .before .before .before .before .before .before .before .before .before .before .before in
     let a = s .args in
-    let h = c .before .before .before .before .before .before .before .before .before .before .before .before .before .before .before .before .hold in
-    printed-as (ap (stepOf (a .rom .now) (world (a .state) (a .ram .now) (a .store .now) (a .image .now))) (ap (take (h .result)) (h .ensures .0) ∙ held-on (a .line .now) (a .held) (a .rest .now) (s .pre .0) (s .pre .1) (h .result) (h .ensures .1)))
-    (c .before .before .before .before .before .before .before .before .line-done2 .ensures)
+    let h = c .before .before .before .before .before .before .before .before .before .before .before .before .before .before .before .before .before .before .before .hold in
+    let d = c .before .before .before .before .before .before .before .before .before .before .line-done2 .ensures in (
+      printed-as (ap (stepOf (a .rom .now) (world (decoded (a .state .now)) (a .ram .now) (a .store .now) (a .image .now))) (ap (take (h .result)) (h .ensures .0) ∙ held-on (a .line .now) (a .held) (a .rest .now) (s .pre .1) (s .pre .2) (h .result) (h .ensures .1))) (d .0),
+      d .1,
+    )
 
 pub end-line-spec : {M : Type 1} → statement M
 end-line-spec =
@@ -77,14 +87,16 @@ end-line-spec =
     same-length-2
     same-length-3
     same-length-4
+    same-length-5
     returns
     hold-requires
     slice-reshare-prefix-line-done
     slice-aggregate-line-done
     line-done-requires-2
-    same-length-5
     same-length-6
     same-length-7
     same-length-8
     same-length-9
+    same-length-10
+    same-length-11
     returns-2)

@@ -1,25 +1,28 @@
 -- `script::text::feed` meets its contract: the invariant is `Going`: what is left from here is the whole from the start. Assumes nothing.
 use mathlib.Core.Path.{_≡_, refl, sym, ap, _∙_}
+use mathlib.Core.Bool.{true}
 use mathlib.Core.List.{[]}
 use Prim.Native.Nat.{_-_, _≤_}
 use native.Mathlib.Omega.{arith}
-use lib.Seq.{length-take-le}
 use lib.ListN.{length, take}
 use borrow.Author.Needs.{needs}
+use Rattle.layout.specs.Layout.{isRecord, decoded}
+use Rattle.layout.proofs.Inverse.{record-parts}
 use Rattle.script.specs.Session.{world}
 use Rattle.script.specs.Said.{Ends}
-use Rattle.script.specs.Pieces.{readerOf}
+use Rattle.script.specs.Pieces.{readerOf, feedMeans}
 use Rattle.script.proofs.Feeds.{Going, reading, leaving, going-start, going-on, going-line, going-done, goes-on, few-held, held-on, begun}
 use Rattle.script.proofs.text.feed.Statement.{statement}
 use Rattle.script.proofs.text.feed.Tie as tie
 
 abbrev Inv-loop : tie.InvT-loop
-Inv-loop rom ram₀ store₀ image₀ piece out₀ line₀ held₀ now₀ at₀ i₀ end₀ ram store image out line held now at i end =
+Inv-loop rom ram₀ store₀ image₀ piece out₀ line₀ held₀ bytes₀ at₀ i₀ end₀ ram store image out line held bytes at i end =
     (length ram ≡ length ram₀) × (length store ≡ length store₀) × (length image ≡ length image₀) × (length line ≡ 261) × (held ≤ 261) × Ends piece i end
-    × Going rom (reading (world now₀ ram₀ store₀ image₀) (take held₀ line₀) [] 0) out₀ piece (world now ram store image) (take held line) out at i
+    × Going rom (reading (world (decoded bytes₀) ram₀ store₀ image₀) (take held₀ line₀) [] 0) out₀ piece (world (decoded bytes) ram store image) (take held line) out at i
+    × (isRecord bytes ≡ true)
 
 abbrev μ-loop : tie.MeasureT-loop
-μ-loop rom ram₀ store₀ image₀ piece out₀ line₀ held₀ now₀ at₀ i₀ end₀ ram store image out line held now at i end = length piece - end
+μ-loop rom ram₀ store₀ image₀ piece out₀ line₀ held₀ bytes₀ at₀ i₀ end₀ ram store image out line held bytes at i end = length piece - end
 
 -- the reader's line has 261 bytes
 long : (s : tie.Start Inv-loop μ-loop) → length (s .args .reader .line) ≡ 261
@@ -28,13 +31,16 @@ long s = search needs
 at-most-requires : tie.Need-at-most-requires Inv-loop μ-loop
 at-most-requires c κs = search needs
 
+bytes-of-requires : tie.Need-bytes-of-requires Inv-loop μ-loop
+bytes-of-requires c κs = search needs
+
 line-end-requires : tie.Need-line-end-requires Inv-loop μ-loop
 line-end-requires c κs = omega arith
 
 loop-holds : tie.Need-loop-holds Inv-loop μ-loop
 loop-holds c =
-    let a = c .before .before .before .before .before .before .before .before .before in
-    (refl, refl, refl, long a, c .before .at-most .ensures .1, c .line-end .ensures, going-start _ _ _ _ _ (few-held _ _ (c .before .at-most .ensures .1)))
+    let few = c .before .before .at-most .ensures .1 in
+    (refl, refl, refl, long (c .before .before .before .before .before .before .before .before .before .before), few, c .line-end .ensures, going-start _ _ _ _ _ (few-held _ _ few), c .before .bytes-of .ensures .0)
 
 sub-answered : tie.Need-sub-answered Inv-loop μ-loop
 sub-answered c = c .loop .inv .6 .room
@@ -43,36 +49,39 @@ answered-requires : tie.Need-answered-requires Inv-loop μ-loop
 answered-requires c κs = search needs
 
 slice-aggregate-end-line : tie.Need-slice-aggregate-end-line Inv-loop μ-loop
-slice-aggregate-end-line c = sym (c .before .before .before .before .before .before .loop .inv .3)
+slice-aggregate-end-line c = sym (record-parts _ (c .before .before .before .loop .inv .7) .long)
+
+slice-aggregate-end-line-2 : tie.Need-slice-aggregate-end-line-2 Inv-loop μ-loop
+slice-aggregate-end-line-2 c = sym (c .before .before .before .before .before .before .before .loop .inv .3)
 
 sub-end-line : tie.Need-sub-end-line Inv-loop μ-loop
-sub-end-line c = c .before .before .before .before .before .before .loop .inv .5 .after
+sub-end-line c = c .before .before .before .before .before .before .before .loop .inv .5 .after
 
 part-end-line-start : tie.Need-part-end-line-start Inv-loop μ-loop
-part-end-line-start c = c .before .before .before .before .before .before .loop .inv .5 .after
+part-end-line-start c = c .before .before .before .before .before .before .before .loop .inv .5 .after
 
 part-end-line-end : tie.Need-part-end-line-end Inv-loop μ-loop
-part-end-line-end c = c .before .before .before .before .before .before .loop .inv .5 .inside
+part-end-line-end c = c .before .before .before .before .before .before .before .loop .inv .5 .inside
 
 end-line-requires : tie.Need-end-line-requires Inv-loop μ-loop
 end-line-requires c κs =
-    let l = c .before .before .before .before .before .before .before .before .loop in
-    let t = goes-on (c .before .before .before .before .before .before .before .before .loop .end) (length (c .before .before .before .before .before .before .before .before .before .before .before .before .before .before .before .before .before .before .args .piece .now)) (length (c .before .before .before .before .before .before .before .before .loop .out) - (c .before .before .before .before .before .before .before .before .loop .at)) (c .before .before .before .before .before .before .before .answered .result) (c .before .before .before .before .before .before .before .answered .ensures) (c .before .before .before .before .before .before .if1 .taken) in
-    (l .inv .3, l .inv .4, omega (arith, t .1))
+    let l = c .before .before .before .before .before .before .before .before .before .loop in
+    let t = goes-on (c .before .before .before .before .before .before .before .before .before .loop .end) (length (c .before .before .before .before .before .before .before .before .before .before .before .before .before .before .before .before .before .before .before .before .args .piece .now)) (length (c .before .before .before .before .before .before .before .before .before .loop .out) - (c .before .before .before .before .before .before .before .before .before .loop .at)) (c .before .before .before .before .before .before .before .before .answered .result) (c .before .before .before .before .before .before .before .before .answered .ensures) (c .before .before .before .before .before .before .before .if1 .taken) in
+    (l .inv .7, l .inv .3, l .inv .4, omega (arith, t .1))
 
 add-i : tie.Need-add-i Inv-loop μ-loop
-add-i c = omega (arith, c .before .before .before .before .before .before .before .before .before .before .before .before .before .before .before .before .before .before .before .before .before .before .before .before .before .before .before .before .before, goes-on (c .before .before .before .before .before .before .before .before .before .before .before .before .before .before .before .before .before .before .before .loop .end) (length (c .before .before .before .before .before .before .before .before .before .before .before .before .before .before .before .before .before .before .before .before .before .before .before .before .before .before .before .before .before .args .piece .now)) (length (c .before .before .before .before .before .before .before .before .before .before .before .before .before .before .before .before .before .before .before .loop .out) - (c .before .before .before .before .before .before .before .before .before .before .before .before .before .before .before .before .before .before .before .loop .at)) (c .before .before .before .before .before .before .before .before .before .before .before .before .before .before .before .before .before .before .answered .result) (c .before .before .before .before .before .before .before .before .before .before .before .before .before .before .before .before .before .before .answered .ensures) (c .before .before .before .before .before .before .before .before .before .before .before .before .before .before .before .before .before .if1 .taken) .0)
+add-i c = omega (arith, c .before .before .before .before .before .before .before .before .before .before .before .before .before .before .before .before .before .before .before .before .before .before .before .before .before .before .before .before .before .before .before, goes-on (c .before .before .before .before .before .before .before .before .before .before .before .before .before .before .before .before .before .before .before .before .loop .end) (length (c .before .before .before .before .before .before .before .before .before .before .before .before .before .before .before .before .before .before .before .before .before .before .before .before .before .before .before .before .before .before .before .args .piece .now)) (length (c .before .before .before .before .before .before .before .before .before .before .before .before .before .before .before .before .before .before .before .before .loop .out) - (c .before .before .before .before .before .before .before .before .before .before .before .before .before .before .before .before .before .before .before .before .loop .at)) (c .before .before .before .before .before .before .before .before .before .before .before .before .before .before .before .before .before .before .before .answered .result) (c .before .before .before .before .before .before .before .before .before .before .before .before .before .before .before .before .before .before .before .answered .ensures) (c .before .before .before .before .before .before .before .before .before .before .before .before .before .before .before .before .before .before .if1 .taken) .0)
 
 line-end-requires-2 : tie.Need-line-end-requires-2 Inv-loop μ-loop
-line-end-requires-2 c κs = omega (arith, goes-on (c .before .before .before .before .before .before .before .before .before .before .before .before .before .before .before .before .before .before .before .loop .end) (length (c .before .before .before .before .before .before .before .before .before .before .before .before .before .before .before .before .before .before .before .before .before .before .before .before .before .before .before .before .before .args .piece .now)) (length (c .before .before .before .before .before .before .before .before .before .before .before .before .before .before .before .before .before .before .before .loop .out) - (c .before .before .before .before .before .before .before .before .before .before .before .before .before .before .before .before .before .before .before .loop .at)) (c .before .before .before .before .before .before .before .before .before .before .before .before .before .before .before .before .before .before .answered .result) (c .before .before .before .before .before .before .before .before .before .before .before .before .before .before .before .before .before .before .answered .ensures) (c .before .before .before .before .before .before .before .before .before .before .before .before .before .before .before .before .before .if1 .taken) .0)
+line-end-requires-2 c κs = omega (arith, goes-on (c .before .before .before .before .before .before .before .before .before .before .before .before .before .before .before .before .before .before .before .before .loop .end) (length (c .before .before .before .before .before .before .before .before .before .before .before .before .before .before .before .before .before .before .before .before .before .before .before .before .before .before .before .before .before .before .before .args .piece .now)) (length (c .before .before .before .before .before .before .before .before .before .before .before .before .before .before .before .before .before .before .before .before .loop .out) - (c .before .before .before .before .before .before .before .before .before .before .before .before .before .before .before .before .before .before .before .before .loop .at)) (c .before .before .before .before .before .before .before .before .before .before .before .before .before .before .before .before .before .before .before .answered .result) (c .before .before .before .before .before .before .before .before .before .before .before .before .before .before .before .before .before .before .before .answered .ensures) (c .before .before .before .before .before .before .before .before .before .before .before .before .before .before .before .before .before .before .if1 .taken) .0)
 
 loop-less : tie.Need-loop-less Inv-loop μ-loop
-loop-less c = omega (arith, c .line-end2 .ensures .after, goes-on (c .before .before .before .before .before .before .before .before .before .before .before .before .before .before .before .before .before .before .before .before .loop .end) (length (c .before .before .before .before .before .before .before .before .before .before .before .before .before .before .before .before .before .before .before .before .before .before .before .before .before .before .before .before .before .before .args .piece .now)) (length (c .before .before .before .before .before .before .before .before .before .before .before .before .before .before .before .before .before .before .before .before .loop .out) - (c .before .before .before .before .before .before .before .before .before .before .before .before .before .before .before .before .before .before .before .before .loop .at)) (c .before .before .before .before .before .before .before .before .before .before .before .before .before .before .before .before .before .before .before .answered .result) (c .before .before .before .before .before .before .before .before .before .before .before .before .before .before .before .before .before .before .before .answered .ensures) (c .before .before .before .before .before .before .before .before .before .before .before .before .before .before .before .before .before .before .if1 .taken) .0)
+loop-less c = omega (arith, c .line-end2 .ensures .after, goes-on (c .before .before .before .before .before .before .before .before .before .before .before .before .before .before .before .before .before .before .before .before .before .loop .end) (length (c .before .before .before .before .before .before .before .before .before .before .before .before .before .before .before .before .before .before .before .before .before .before .before .before .before .before .before .before .before .before .before .before .args .piece .now)) (length (c .before .before .before .before .before .before .before .before .before .before .before .before .before .before .before .before .before .before .before .before .before .loop .out) - (c .before .before .before .before .before .before .before .before .before .before .before .before .before .before .before .before .before .before .before .before .before .loop .at)) (c .before .before .before .before .before .before .before .before .before .before .before .before .before .before .before .before .before .before .before .before .answered .result) (c .before .before .before .before .before .before .before .before .before .before .before .before .before .before .before .before .before .before .before .before .answered .ensures) (c .before .before .before .before .before .before .before .before .before .before .before .before .before .before .before .before .before .before .before .if1 .taken) .0)
 
 loop-again : tie.Need-loop-again Inv-loop μ-loop
 loop-again c =
-    let l = c .before .before .before .before .before .before .before .before .before .before .before .before .before .before .before .before .before .before .before .before .loop in
-    let t = goes-on (c .before .before .before .before .before .before .before .before .before .before .before .before .before .before .before .before .before .before .before .before .loop .end) (length (c .before .before .before .before .before .before .before .before .before .before .before .before .before .before .before .before .before .before .before .before .before .before .before .before .before .before .before .before .before .before .args .piece .now)) (length (c .before .before .before .before .before .before .before .before .before .before .before .before .before .before .before .before .before .before .before .before .loop .out) - (c .before .before .before .before .before .before .before .before .before .before .before .before .before .before .before .before .before .before .before .before .loop .at)) (c .before .before .before .before .before .before .before .before .before .before .before .before .before .before .before .before .before .before .before .answered .result) (c .before .before .before .before .before .before .before .before .before .before .before .before .before .before .before .before .before .before .before .answered .ensures) (c .before .before .before .before .before .before .before .before .before .before .before .before .before .before .before .before .before .before .if1 .taken) in
+    let l = c .before .before .before .before .before .before .before .before .before .before .before .before .before .before .before .before .before .before .before .before .before .loop in
+    let t = goes-on (c .before .before .before .before .before .before .before .before .before .before .before .before .before .before .before .before .before .before .before .before .before .loop .end) (length (c .before .before .before .before .before .before .before .before .before .before .before .before .before .before .before .before .before .before .before .before .before .before .before .before .before .before .before .before .before .before .before .before .args .piece .now)) (length (c .before .before .before .before .before .before .before .before .before .before .before .before .before .before .before .before .before .before .before .before .before .loop .out) - (c .before .before .before .before .before .before .before .before .before .before .before .before .before .before .before .before .before .before .before .before .before .loop .at)) (c .before .before .before .before .before .before .before .before .before .before .before .before .before .before .before .before .before .before .before .before .answered .result) (c .before .before .before .before .before .before .before .before .before .before .before .before .before .before .before .before .before .before .before .before .answered .ensures) (c .before .before .before .before .before .before .before .before .before .before .before .before .before .before .before .before .before .before .before .if1 .taken) in
     let d = c .before .before .before .before .before .before .before .before .before .before .before .end-line in (
       d .kept .1 .1 .0 ∙ l .inv .0,
       d .kept .1 .1 .1 .0 ∙ l .inv .1,
@@ -80,7 +89,8 @@ loop-again c =
       d .kept .1 .1 .1 .1 .1 .0 ∙ l .inv .3,
       omega arith,
       c .line-end2 .ensures,
-      going-line _ _ _ _ _ _ _ _ _ (going-on _ _ _ _ _ _ _ _ _ _ (l .inv .6) (l .inv .5)) (t .0) (l .inv .5 .found (t .0)) (omega (arith, t .1)) _ _ _ (d .ensures) (d .kept .1 .1 .1 .1 .1 .1 .1 .1 .0),
+      going-line _ _ _ _ _ _ _ _ _ (going-on _ _ _ _ _ _ _ _ _ _ (l .inv .6) (l .inv .5)) (t .0) (l .inv .5 .found (t .0)) (omega (arith, t .1)) _ _ _ (d .ensures .0) (d .kept .1 .1 .1 .1 .1 .1 .1 .1 .0),
+      d .ensures .1,
     )
 
 slice-aggregate-hold : tie.Need-slice-aggregate-hold Inv-loop μ-loop
@@ -101,27 +111,35 @@ hold-requires c κs = (c .before .before .before .before .loop .inv .3, c .befor
 holding-requires : tie.Need-holding-requires Inv-loop μ-loop
 holding-requires c κs = c .before .hold .ensures .2
 
+slice-aggregate-decode : tie.Need-slice-aggregate-decode Inv-loop μ-loop
+slice-aggregate-decode c = sym (record-parts _ (c .before .before .before .before .before .before .before .before .loop .inv .7) .long)
+
+decode-requires : tie.Need-decode-requires Inv-loop μ-loop
+decode-requires c κs = c .before .before .before .before .before .before .before .before .loop .inv .7
+
 same-length : tie.Need-same-length Inv-loop μ-loop
-same-length c = c .before .before .before .before .before .before .before .loop .inv .0
+same-length c = c .before .before .before .before .before .before .before .before .before .loop .inv .0
 
 same-length-2 : tie.Need-same-length-2 Inv-loop μ-loop
-same-length-2 c = c .before .before .before .before .before .before .before .loop .inv .1
+same-length-2 c = c .before .before .before .before .before .before .before .before .before .loop .inv .1
 
 same-length-3 : tie.Need-same-length-3 Inv-loop μ-loop
-same-length-3 c = c .before .before .before .before .before .before .before .loop .inv .2
+same-length-3 c = c .before .before .before .before .before .before .before .before .before .loop .inv .2
 
 same-length-4 : tie.Need-same-length-4 Inv-loop μ-loop
-same-length-4 c = c .before .before .before .before .before .before .before .loop .inv .6 .same
+same-length-4 c = c .before .before .before .before .before .before .before .before .before .loop .inv .6 .same
 
 returns : tie.Need-returns Inv-loop μ-loop
 returns c =
-    let a = c .before .before .before .before .before .before .before .before .before .before .before .before .before .before .before .before .before .args in
-    let l = c .before .before .before .before .before .before .before .loop in
-    let h = c .before .before .hold in
+    let a = c .before .before .before .before .before .before .before .before .before .before .before .before .before .before .before .before .before .before .before .before .args in
+    let l = c .before .before .before .before .before .before .before .before .before .loop in
+    let h = c .before .before .before .before .hold in
     let kept = ap (take (h .result)) (h .ensures .0) ∙ held-on (l .line) (l .held) _ (l .inv .3) (l .inv .4) (h .result) (h .ensures .1) in (
-      ap (leaving (world (l .now) (l .ram) (l .store) (l .image)) (l .out) (l .end) (l .at)) (c .holding .ensures ∙ ap readerOf kept)
-          ∙ going-done _ _ _ _ _ _ _ _ _ (going-on _ _ _ _ _ _ _ _ _ _ (l .inv .6) (l .inv .5)) (l .inv .5 .found) _ (c .before .before .before .before .before .before .answered .ensures) (c .before .before .before .before .before .if1 .left)
-          ∙ begun (a .rom .now) _ (a .reader) (a .piece .now) (a .out .now) _ (c .before .before .before .before .before .before .before .before .before .at-most .ensures .0),
+      ap (λ x. leaving (world x (l .ram) (l .store) (l .image)) (l .out) (l .end) (l .at) (c .before .before .holding .result)) (c .decode .ensures)
+          ∙ ap (leaving (world (decoded (l .bytes)) (l .ram) (l .store) (l .image)) (l .out) (l .end) (l .at)) (c .before .before .holding .ensures ∙ ap readerOf kept)
+          ∙ going-done _ _ _ _ _ _ _ _ _ (going-on _ _ _ _ _ _ _ _ _ _ (l .inv .6) (l .inv .5)) (l .inv .5 .found) _ (c .before .before .before .before .before .before .before .before .answered .ensures) (c .before .before .before .before .before .before .before .if1 .left)
+          ∙ begun (a .rom .now) _ (a .reader) (a .piece .now) (a .out .now) _ (c .before .before .before .before .before .before .before .before .before .before .before .before .at-most .ensures .0)
+          ∙ ap (λ x. feedMeans (a .rom .now) (world x (a .ram .now) (a .store .now) (a .image .now)) (a .reader) (a .piece .now) (a .out .now)) (c .before .before .before .before .before .before .before .before .before .before .before .bytes-of .ensures .1),
       l .inv .5 .inside,
       omega (arith, l .inv .6 .room, l .inv .6 .same),
     )
@@ -133,11 +151,13 @@ feed-spec =
     Inv-loop
     μ-loop
     at-most-requires
+    bytes-of-requires
     line-end-requires
     loop-holds
     sub-answered
     answered-requires
     slice-aggregate-end-line
+    slice-aggregate-end-line-2
     sub-end-line
     part-end-line-start
     part-end-line-end
@@ -152,6 +172,8 @@ feed-spec =
     part-hold-end
     hold-requires
     holding-requires
+    slice-aggregate-decode
+    decode-requires
     same-length
     same-length-2
     same-length-3
