@@ -8,7 +8,7 @@ use lib.Dec.{eqb, ltb}
 use lib.ListN.{length, getD, take, drop, replicate, length-set, length-drop}
 use lib.Seq.{length-take-le}
 use borrow.Author.Tests.{eqb-true, not-false}
-use Rattle.laws.specs.Iter.{iter-keeps}
+use Rattle.laws.proofs.Iter.{iter-keeps}
 use Rattle.laws.proofs.Pick.{pick-ind}
 use Rattle.lighting.specs.Taken.{exposureOf}
 use Rattle.controller.specs.declared.Controller.{Controller}
@@ -22,10 +22,10 @@ use Rattle.capture.specs.Capture.{Ticking, begun, moved, ended, running, runs, 
 use Rattle.cartridge.specs.Calls.{writeRows, writeMeans}
 use Rattle.capture.specs.Calls.{tickRows, tickMeans}
 use Rattle.controller.specs.Table.{lowest}
-use Rattle.controller.proofs.Exists.{neither-left, exists-parts, before-total}
+use Rattle.controller.proofs.Exists.{exists-parts, before-total}
 use Rattle.cartridge.proofs.Refusals.{write-refuses}
 use Rattle.capture.proofs.Refusals.{tick-refuses, tick-fits}
-use Rattle.laws.proofs.Bools.{either}
+use Rattle.laws.proofs.Bools.{either, neither-left}
 use Rattle.capture.proofs.TickSum.{Kept, ticks-keep, again, after, tick-sum}
 use Rattle.layout.specs.Layout.{encoded, isRecord, fourAt, decoded}
 use Rattle.layout.proofs.Inverse.{Whole, record-parts, encoded-record, decode-encode, encode-decode}
@@ -110,7 +110,7 @@ ticks-whole lit ram n c e z =
 
 -- ---- a write
 
-same-sizes : (c d : Controller) → Whole c → length (d .registers) ≡ length (c .registers) → length (d .taken) ≡ length (c .taken) → d .elapsed .0 ≡ c .elapsed .0 → d .started ≡ c .started → d .ended ≡ c .ended → Whole d
+pub same-sizes : (c d : Controller) → Whole c → length (d .registers) ≡ length (c .registers) → length (d .taken) ≡ length (c .taken) → d .elapsed .0 ≡ c .elapsed .0 → d .started ≡ c .started → d .ended ≡ c .ended → Whole d
 same-sizes c d w r t e m n = record { registers = r ∙ w .registers; taken = t ∙ w .taken; elapsed = rw e (w .elapsed); started = rw m (w .started); ended = rw n (w .ended) }
 
 control-whole : (c : Controller) (a v : ℕ) → Whole c → Whole (controlWritten c a v)

@@ -9,7 +9,7 @@ use Rattle.controller.specs.Outcome.{Outcome, outcome, verdictNumber}
 use Rattle.controller.specs.Table.{noState, before, lowest}
 use Rattle.tiles.specs.Bulk.{pixels}
 use Rattle.timing.specs.Timing.{totalOf}
-use Rattle.timing.specs.Bulk.{doneBy}
+use Rattle.timing.specs.Aside.{doneBy}
 use Rattle.capture.specs.Capture.{running, ended, moved, ticks, from}
 use Rattle.capture.specs.Calls.{ticked, tickRows}
 use Rattle.capture.specs.Aside.{after, lentToTick}

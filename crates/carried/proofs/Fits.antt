@@ -19,7 +19,7 @@ use Rattle.desk.specs.Choice.{stepsOf, valueOf, stored, timed, registersChosen}
 use Rattle.desk.proofs.Level.{chosen-length}
 use Rattle.layout.proofs.Inverse.{Whole}
 use Rattle.embed.specs.Exports.{plainIn, exposureIn}
-use Rattle.embed.proofs.Left.{elapsed-small}
+use Rattle.calls.proofs.Left.{elapsed-small}
 use Rattle.history.specs.History as history
 use Rattle.history.specs.History.{World, fresh, leaves}
 use Rattle.history.proofs.Track.{Track, atReset, writeAccepted, choiceAccepted, ends, enabling, selecting, storing, beginning, running, ending, controlled, registered, written, next}

@@ -30,7 +30,7 @@ impl Controller {
     // Cycles of a capture: the base, and what is added where N is clear.
     pub const BASE: u32 = timing::BASE;
 
-    pub const UNFILTERED: u32 = timing::UNFILTERED;
+    pub const N_CLEAR: u32 = timing::N_CLEAR;
     // Clocks before reading begins, at exposure 0.
     pub const READING: u32 = timing::READING;
 

@@ -1,19 +1,13 @@
 // The state record as bytes, layout 3: 121 of them, numbers little-endian.
 use controller::Controller;
 use timing::Cycles;
+use timing::wide;
 ghost use mathlib.Core.Path.{_≡_};
 ghost use mathlib.Core.Bool.{true};
 ghost use mathlib.Core.List.{_++_};
 ghost use Prim.Native.Nat.{_+_, _<_, _≤_};
 ghost use lib.ListN.{length, take, drop};
 ghost use Rattle.layout.specs.Layout.{front, encoded, isRecord, fourAt, twoAt, registersAt, decoded};
-
-// A byte as a wider number, with its bound.
-pub fn wide(x: u8) -> u32
-    ensures { λ r. ⌜ (r ≡ x) × (r < 256) ⌝ }
-{
-    x as u32
-}
 
 // The number of the layout, at offset 0: bytes of another layout are no record.
 const LAYOUT: u8 = 3;

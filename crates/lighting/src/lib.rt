@@ -72,7 +72,7 @@ fn mean(a: u8, b: u8) -> u8
 
 // Step 1: 5/8 of v and 3/8 of 128, from means, which a vector takes sixteen bytes at a time. They round up, as below 128 is
 // asked; from 128 on the negative is adapted.
-pub fn adapt(v: u8) -> u8
+fn adapt(v: u8) -> u8
     ensures { λ r. ⌜ r ≡ adapted v ⌝ }
 {
     let up = 127 < v;

@@ -10,9 +10,9 @@ pub fn digit_byte(d: u8) -> u8
     ensures { λ r. ⌜ r ≡ digitByte d ⌝ }
 {
     if d < 10 {
-        return 0x30 + d;
+        return b'0' + d;
     }
-    0x41 + (d - 10)
+    b'A' + (d - 10)
 }
 
 // Puts n digits of a value into a buffer, the last digit first.

@@ -29,10 +29,10 @@ pub enum Frame {
 }
 
 // No branch tells digits from letters: which comes next is not to be guessed.
-pub fn digit_of(b: u8) -> Digit
+pub(crate) fn digit_of(b: u8) -> Digit
     ensures { λ r. ⌜ r ≡ digitOf b ⌝ }
 {
-    let past = std::num::wrapping_sub_u8(b, 48);
+    let past = std::num::wrapping_sub_u8(b, b'0');
     if 22 < past {
         return Digit::NotHex; // not in 30h to 46h
     }

@@ -19,14 +19,6 @@ pub(crate) fn opened<'a>(line: &'a [u8]) -> LineReader<'a>
     LineReader { line, at: 0 }
 }
 
-// How many bytes of the line are left.
-pub(crate) fn left<'a>(r: LineReader<'a>) -> usize
-    requires { ⌜ r .at ≤ length (now (r .line)) ⌝ }
-    ensures { λ n. ⌜ n + r .entry .at ≡ length (now (r .entry .line)) ⌝ }
-{
-    r.line.len() - r.at
-}
-
 // The reader n bytes further on.
 pub(crate) fn moved<'a>(r: LineReader<'a>, n: usize) -> LineReader<'a>
     requires { ⌜ r .at + n ≤ length (now (r .line)) ⌝ }

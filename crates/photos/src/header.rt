@@ -150,7 +150,7 @@ fn step(p: Place, b: u8) -> Place
 }
 
 // Whether a text is a header.
-pub fn is_header(text: &[u8]) -> bool
+pub(crate) fn is_header(text: &[u8]) -> bool
     ensures { λ r. ⌜ r ≡ isHeader (now (text .entry)) ⌝ }
 {
     let mut p = Place { part: 0, mode: 0 };

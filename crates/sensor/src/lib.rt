@@ -33,7 +33,7 @@ fn right(x: usize) -> usize
 }
 
 // The lit value at a column and a row of the store, less 128: rows 7 to 121 are all that is asked for.
-pub fn signed_at(store: &[u8], x: usize, row: usize) -> i32
+fn signed_at(store: &[u8], x: usize, row: usize) -> i32
     requires { ⌜ Inside (length (now store)) x row 7 121 ⌝ }
     ensures { λ r. ⌜ r ≡ signedAt (byteAt (now (store .entry))) x row ⌝ }
 {
@@ -65,7 +65,7 @@ pub fn nine(store: &[u8], x: usize, row: usize) -> [[i32; 3]; 3]
 }
 
 // The step 4 value of a pixel. The nine values are worked out only where a filter asks for them.
-pub fn step_4(store: &[u8], set: Setting, x: usize, row: usize) -> i32
+fn step_4(store: &[u8], set: Setting, x: usize, row: usize) -> i32
     requires { ⌜ Inside (length (now store)) x row 8 120 ⌝ }
     requires { ⌜ Sane set ⌝ }
     ensures { λ r. ⌜ r ≡ step4 (byteAt (now (store .entry))) set x row ⌝ }
@@ -94,7 +94,7 @@ pub fn passing(mode: u8) -> bool
 }
 
 // Step 5: what its kind makes of the value and, where it asks for it, of the one a row below.
-pub fn step_5(store: &[u8], set: Setting, x: usize, row: usize) -> i32
+fn step_5(store: &[u8], set: Setting, x: usize, row: usize) -> i32
     requires { ⌜ Inside (length (now store)) x row 8 119 ⌝ }
     requires { ⌜ Sane set ⌝ }
     ensures { λ r. ⌜ r ≡ step5 (byteAt (now (store .entry))) set x row ⌝ }
@@ -127,13 +127,16 @@ pub fn shade(regs: &[u8; 54], x: usize, row: usize, v: u8) -> u8
     ensures { λ r. ⌜ r ≡ shadeOf (now (regs .entry)) x row v ⌝ }
 {
     let at = 6 + 3 * (4 * (row % 4) + x % 4);
-    if v < regs[at] {
+    let low = regs[at];
+    let mid = regs[at + 1];
+    let high = regs[at + 2];
+    if v < low {
         return 3;
     }
-    if v < regs[at + 1] {
+    if v < mid {
         return 2;
     }
-    if v < regs[at + 2] {
+    if v < high {
         return 1;
     }
     0

@@ -11,7 +11,7 @@ ghost use Rattle.lighting.specs.Light.{byteAt};
 ghost use Rattle.tiles.specs.Bulk.{pixels};
 ghost use Rattle.timing.specs.Lent.{banksAllowed, romAllowed, ramAllowed};
 ghost use Rattle.timing.specs.Registers.{allZero};
-ghost use Rattle.timing.specs.Timing.{clocks, totalOf};
+ghost use Rattle.timing.specs.Timing.{nSet, clocks, totalOf};
 ghost use Rattle.timing.specs.Aside.{pictureFrom, doneBy, sumOf};
 
 // Image and frame store: 128 * 128 bytes.
@@ -25,7 +25,7 @@ pub const RAM_BANK: usize = 8192;
 // Cycles of a capture: the base, and what is added where N is clear.
 pub const BASE: u32 = 32446;
 
-pub const UNFILTERED: u32 = 512;
+pub const N_CLEAR: u32 = 512;
 
 // Clocks before reading begins, at exposure 0.
 pub const READING: u32 = 92;
@@ -66,7 +66,7 @@ pub fn bank_place(number: u8, len: usize, size: usize) -> usize
 }
 
 // A byte as a wider number, with its bound.
-fn wide(x: u8) -> u32
+pub fn wide(x: u8) -> u32
     ensures { λ r. ⌜ (r ≡ x) × (r < 256) ⌝ }
 {
     x as u32
@@ -106,16 +106,24 @@ fn exposure(regs: &[u8]) -> u32
     wide(regs[2]) * 256 + wide(regs[3])
 }
 
+// N, bit 7 of A001, is set.
+fn n_set(regs: &[u8]) -> bool
+    requires { ⌜ length (now regs) ≡ 54 ⌝ }
+    ensures { λ r. ⌜ r ≡ nSet (now (regs .entry)) ⌝ }
+{
+    regs[1] / 128 % 2 == 1
+}
+
 // Total cycles of a capture with these registers taken.
 pub fn total(regs: &[u8]) -> Cycles
     requires { ⌜ length (now regs) ≡ 54 ⌝ }
     ensures { λ r. ⌜ (r .0 ≡ totalOf (now (regs .entry))) × (r .0 < 2000000) ⌝ }
 {
     let timed = BASE + 16 * exposure(regs);
-    if regs[1] / 128 % 2 == 1 {
+    if n_set(regs) {
         return Cycles(timed);
     }
-    Cycles(timed + UNFILTERED)
+    Cycles(timed + N_CLEAR)
 }
 
 // The clock after which the picture's pixels begin: row 8 of the sensor, the seventh or the eighth after the first that is read.
@@ -123,7 +131,7 @@ fn picture_from(regs: &[u8; 54]) -> Clocks
     ensures { λ r. ⌜ (r .0 ≡ pictureFrom (now (regs .entry))) × (r .0 < 1000000) ⌝ }
 {
     let reading = READING + 8 * exposure(regs);
-    if regs[1] / 128 % 2 == 1 {
+    if n_set(regs) {
         return Clocks(reading + 7 * 128);
     }
     Clocks(reading + 8 * 128)
