@@ -8,7 +8,8 @@ use native.Mathlib.Omega.{arith}
 use lib.Bits.{bitXor, xor-comm, xor-shifted}
 use lib.Pow.{pow-mono}
 use lib.ListN.{length, set}
-use Rattle.laws.specs.Iter.{iter, iter-add, iter-fixed}
+use Rattle.laws.specs.Iter.{iter}
+use Rattle.laws.proofs.Iter.{iter-add, iter-fixed}
 use Rattle.laws.proofs.Filled.{filled-more, filled-all}
 use Rattle.crc.specs.Crc.{bitStep}
 use Rattle.crc.specs.Aside.{entry, tables, Built, Weight}
