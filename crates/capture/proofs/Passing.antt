@@ -7,7 +7,7 @@ use Rattle.controller.specs.declared.Controller.{Controller}
 use Rattle.controller.specs.declared.Verdict.{Verdict}
 use Rattle.controller.specs.Outcome.{Outcome, outcome, verdictNumber}
 use Rattle.controller.specs.Table.{noState, before, lowest}
-use Rattle.tiles.specs.Bulk.{pixels}
+use Rattle.tiles.specs.Aside.{pixels}
 use Rattle.timing.specs.Timing.{totalOf}
 use Rattle.timing.specs.Aside.{doneBy}
 use Rattle.capture.specs.Capture.{running, ended, moved, ticks, from}

@@ -14,7 +14,7 @@ use Rattle.timing.specs.Timing.{totalOf, writtenAt}
 use Rattle.capture.specs.Capture.{Ticking, moved, ended, running, runs, cycle, ticks, from}
 use Rattle.controller.specs.Outcome.{outcome}
 use Rattle.capture.specs.Calls.{ticked}
-use Rattle.tiles.specs.Bulk.{pixels}
+use Rattle.tiles.specs.Aside.{pixels}
 use Rattle.timing.specs.Aside.{doneBy}
 use Rattle.tiles.proofs.Run.{pixels-none}
 use Rattle.timing.proofs.Range.{pixels-step, done-mono}

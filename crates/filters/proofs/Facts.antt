@@ -13,7 +13,8 @@ use mir.Facts.{toZ-ofZ}
 use lib.Dec.{eqb, ltb, lit<}
 use Rattle.laws.proofs.Table.{at}
 use Rattle.laws.proofs.Pick.{pick-ind, never}
-use Rattle.filters.specs.Edge.{between, held, nine, Small, mode2, mode3, modeC, modeD, modeE, modeF, edgeOf, isPlain}
+use Rattle.filters.specs.Edge.{between, held, nine, Small, mode2, mode3, modeC, modeD, modeE, modeF, edgeOf}
+use Rattle.filters.specs.Aside.{isPlain}
 
 -- ---- what is held
 

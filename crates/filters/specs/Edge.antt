@@ -1,10 +1,9 @@
 -- From light to shade, step 4: the edge filters. Assumes nothing.
-use mathlib.Core.Bool.{Bool, true, false}
 use mathlib.Core.List.{List, []}
 use Prim.Native.Nat.{ℕ, _+_, _-_, _<_}
 use lib.IntN.{ℤ, pos, negsuc, _+ℤ_, _-ℤ_, _*ℤ_}
 use lib.Signed.{mag, ltZ, quotZ}
-use lib.Dec.{eqb, ltb}
+use lib.Dec.{eqb}
 use lib.ListN.{getD}
 use Rattle.laws.specs.Pick.{pick}
 
@@ -73,7 +72,3 @@ edgeOf mode q n =
     (pick (eqb mode 0xE) (modeE q n)
     (pick (eqb mode 0xF) (modeF q n)
     (nine n 1 1)))))))
-
--- modes 0 and 4 to B, which are P as it is
-abbrev pub isPlain : ℕ → Bool
-isPlain mode = pick (eqb mode 0x0) true (pick (ltb mode 0x4) false (ltb mode 0xC))

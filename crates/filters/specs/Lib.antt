@@ -1,3 +1,3 @@
 -- From light to shade, step 4: the filters.
 pub mod Edge
-pub mod Nine
+pub mod Aside

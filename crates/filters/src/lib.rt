@@ -2,8 +2,8 @@
 ghost use mathlib.Core.Path.{_≡_};
 ghost use Prim.Native.Nat.{_+_, _-_, _/_, _<_, _≤_};
 ghost use lib.IntN.{natAbs};
-ghost use Rattle.filters.specs.Edge.{held, Small, acrossOf, uprightOf, aroundOf, enhanced, extracted, mode2, mode3, modeC, modeD, modeE, modeF, edgeOf, isPlain};
-ghost use Rattle.filters.specs.Nine.{SmallRow, threeIn, nineIn};
+ghost use Rattle.filters.specs.Edge.{held, Small, acrossOf, uprightOf, aroundOf, enhanced, extracted, mode2, mode3, modeC, modeD, modeE, modeF, edgeOf};
+ghost use Rattle.filters.specs.Aside.{SmallRow, threeIn, nineIn, isPlain};
 
 // Held to -128..127.
 pub fn hold(v: i32) -> i32

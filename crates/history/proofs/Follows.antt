@@ -36,7 +36,7 @@ use Rattle.controller.proofs.Exists.{before-total}
 use Rattle.capture.proofs.Ticks.{idle, going, over}
 use Rattle.tiles.proofs.Pixels.{pixels-length}
 use Rattle.tiles.proofs.Run.{pixels-none}
-use Rattle.tiles.specs.Bulk.{pixels}
+use Rattle.tiles.specs.Aside.{pixels}
 use Rattle.timing.specs.Aside.{doneBy}
 use Rattle.desk.specs.declared.choice.Exposure.{Exposure}
 use Rattle.desk.specs.Choice.{beyond, registersChosen, withRegisters, chooseRows, chooseMeans}

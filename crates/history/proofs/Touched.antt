@@ -25,7 +25,7 @@ use Rattle.timing.proofs.Range.{timed, done-most}
 use Rattle.tiles.specs.Tiles.{shadeIn}
 use Rattle.tiles.specs.Tiles as tiles
 use Rattle.tiles.specs.Picture.{pictureShade}
-use Rattle.tiles.specs.Bulk.{pixels}
+use Rattle.tiles.specs.Aside.{pixels}
 use Rattle.tiles.proofs.Run.{pixels-none}
 use Rattle.tiles.proofs.Pixels.{pixels-outside, pixels-passed, pixels-others}
 use Rattle.laws.proofs.Pick.{ap-pick}

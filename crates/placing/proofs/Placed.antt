@@ -24,7 +24,7 @@ use Rattle.controller.proofs.Refusals.{Refuses, inOutcome, refuses, judged-pick
 use Rattle.laws.proofs.Packed.{packed-ext}
 use Rattle.tiles.proofs.Area.{columnOf, rowOf, byteOf, byteOf-low, byteOf-high}
 use Rattle.placing.specs.Placing.{hasHeader, onlyGreys, isPlate, shadeOf, shadeAt, placedByte, placedIn, noPlate, placed, placeRows, placeMeans}
-use Rattle.placing.specs.Eight.{lowsAt, highsAt}
+use Rattle.placing.specs.Aside.{lowsAt, highsAt}
 
 -- a placing is refused by the lowest number of its rows, and only then
 pub place-refuses : (c : Controller) (ram file : List ℕ) → Refuses (placeRows c ram file) inOutcome (refusal c ram []) (placeMeans c ram file) (placed c ram file)

@@ -9,7 +9,7 @@ use Rattle.laws.specs.Lists.{listed}
 use Rattle.laws.proofs.Filled.{Filled, filled-all}
 use Rattle.laws.proofs.Order.{split}
 use Rattle.placing.specs.Placing.{placedByte}
-use Rattle.placing.specs.Eight.{lowsAt, highsAt}
+use Rattle.placing.specs.Aside.{lowsAt, highsAt}
 use Rattle.placing.proofs.Placed.{placed-low, placed-high}
 
 -- the turn in which byte i is put

@@ -14,9 +14,9 @@ use Rattle.laws.specs.Pick.{pick}
 use Rattle.laws.proofs.Packed.{packed-ext, listed-at}
 use Rattle.laws.proofs.Pick.{pick-ind}
 use Rattle.laws.proofs.Table.{at}
-use Rattle.shades.specs.Tones.{weightOf}
+use Rattle.shades.specs.Aside.{weightOf}
 use Rattle.placing.specs.Placing.{isGrey, onlyGreys, shadeOf}
-use Rattle.placing.specs.Eight.{lowsAt, highsAt, weighed, weighedAt, sumAt, Weighed}
+use Rattle.placing.specs.Aside.{lowsAt, highsAt, weighed, weighedAt, sumAt, Weighed}
 use Rattle.placing.proofs.Each.{each-at}
 
 -- ---- one grey, by one test of all bytes

@@ -1,3 +1,3 @@
 -- A plate's file back into the picture area.
 pub mod Placing
-pub mod Eight
+pub mod Aside

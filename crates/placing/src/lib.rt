@@ -13,11 +13,11 @@ ghost use mathlib.Core.List.{[]};
 ghost use Prim.Native.Nat.{_+_, _*_, _%_, _<_, _≤_};
 ghost use lib.ListN.{length};
 ghost use Rattle.laws.specs.Lists.{listed};
-ghost use Rattle.shades.specs.Tones.{weightOf};
+ghost use Rattle.shades.specs.Aside.{weightOf};
 ghost use Rattle.controller.specs.Outcome.{verdictNumber, writeNumber, outcome};
 ghost use Rattle.controller.specs.Table.{lowest};
 ghost use Rattle.placing.specs.Placing.{hasHeader, isGrey, onlyGreys, isPlate, placedArea, placeRows, placeMeans};
-ghost use Rattle.placing.specs.Eight.{lowsAt, highsAt, weighed, weighedAt, sumAt, Weighed};
+ghost use Rattle.placing.specs.Aside.{lowsAt, highsAt, weighed, weighedAt, sumAt, Weighed};
 
 // The end of the picture area in RAM bank 0.
 const END: usize = 0xF00;

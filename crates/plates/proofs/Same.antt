@@ -11,7 +11,7 @@ use Rattle.laws.specs.Bits.{bitOf}
 use Rattle.laws.proofs.Packed.{listed-at, listed-ext}
 use Rattle.tiles.specs.Tiles.{place, shadeIn, areaOf, Bytes}
 use Rattle.tiles.specs.Picture.{pictureShade, pictureOf}
-use Rattle.tiles.specs.Bulk.{pixels}
+use Rattle.tiles.specs.Aside.{pixels}
 use Rattle.tiles.proofs.Pixels.{pixels-passed}
 use Rattle.tiles.proofs.Area.{Alike, area-ext, shadeIn-small, pixels-whole}
 use Rattle.plates.specs.Grey.{header, greyOf, greyAt, plateOf, plateAfresh}

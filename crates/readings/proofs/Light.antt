@@ -18,7 +18,7 @@ use Rattle.lighting.specs.Light.{lightFrame, byteAt, litOf}
 use Rattle.sensor.proofs.Rows.{Alike, rows}
 use Rattle.sensor.proofs.Lit.{light-alike}
 use Rattle.tiles.specs.Picture.{pictureOf}
-use Rattle.tiles.specs.Bulk.{pixels}
+use Rattle.tiles.specs.Aside.{pixels}
 use Rattle.tiles.proofs.Lit.{picture-light, pixels-light}
 use Rattle.timing.specs.Timing.{totalOf}
 use Rattle.timing.proofs.Lit.{written-lit}

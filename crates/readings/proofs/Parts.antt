@@ -12,7 +12,7 @@ use Rattle.laws.proofs.Packed.{listed-length, listed-at, listed-ext}
 use Rattle.laws.proofs.Filled.{Filled}
 use Rattle.lighting.specs.declared.Setting.{Setting}
 use Rattle.sensor.specs.Shade.{valueAt}
-use Rattle.rows.specs.Rows.{valueRow}
+use Rattle.rows.specs.Aside.{valueRow}
 
 -- the m elements from the n-th on, which are the next of f's
 pub filled-part : (f : ℕ → ℕ) {size n : ℕ} (m : ℕ) {out part : List ℕ} → Filled f size n out → part ≡ listed (λ x. f (n + x)) m → n + m ≤ size → Filled f size (n + m) (putMid n m out part)

@@ -20,7 +20,7 @@ use Rattle.sensor.specs.Nine.{signedAt, threeOf, nineOf, step4}
 use Rattle.sensor.specs.Row.{passes, rowFilter, step5}
 use Rattle.sensor.specs.Shade.{valueAt}
 use Rattle.sensor.proofs.Facts.{step4-small}
-use Rattle.rows.specs.Rows.{valueRow, asksBelow, negates, raisedOf, pixelBy, rowBy, stepRow, lessOf, lessRow, negativeRow, Carried}
+use Rattle.rows.specs.Aside.{valueRow, asksBelow, negates, raisedOf, pixelBy, rowBy, stepRow, lessOf, lessRow, negativeRow, Carried}
 
 -- ---- a lit value less 128, raised again
 raised-byte : (b : ℕ) → raisedOf (pos b -ℤ pos 128) ≡ b

@@ -1,2 +1,2 @@
 -- Rows of values: devices of contracts between crates.
-pub mod Rows
+pub mod Aside

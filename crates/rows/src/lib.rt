@@ -10,7 +10,7 @@ ghost use lib.Signed.{mag};
 ghost use Rattle.laws.specs.Lists.{listed};
 ghost use Rattle.lighting.specs.Taken.{Sane};
 ghost use Rattle.lighting.specs.Light.{Inside, byteAt};
-ghost use Rattle.rows.specs.Rows.{valueRow, asksBelow, negates, raisedOf, Nine, pixelBy, rowBy, lessOf, lessRow, negativeRow, Carried};
+ghost use Rattle.rows.specs.Aside.{valueRow, asksBelow, negates, raisedOf, Nine, pixelBy, rowBy, lessOf, lessRow, negativeRow, Carried};
 
 // The nine values around a pixel, with their bounds.
 fn nine(store: &[u8], x: usize, row: usize) -> [[i32; 3]; 3]

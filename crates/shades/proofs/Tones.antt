@@ -18,7 +18,7 @@ use Rattle.laws.proofs.Table.{at}
 use Rattle.lighting.specs.Light.{turned}
 use Rattle.tiles.specs.Tiles.{place, shadeIn}
 use Rattle.shades.specs.Shades.{shadeNth}
-use Rattle.shades.specs.Tones.{weightOf, spreadOf, toneOf, toneNth}
+use Rattle.shades.specs.Aside.{weightOf, spreadOf, toneOf, toneNth}
 
 -- ---- one bit
 

@@ -1,3 +1,3 @@
 -- The picture area as shades.
 pub mod Shades
-pub mod Tones
+pub mod Aside

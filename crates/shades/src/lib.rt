@@ -12,7 +12,7 @@ ghost use Rattle.laws.specs.Lists.{listed};
 ghost use Rattle.controller.specs.Outcome.{verdictNumber};
 ghost use Rattle.controller.specs.Table.{lowest};
 ghost use Rattle.shades.specs.Shades.{shadeNth, outputNumber, outputValue, exported, shadesRows, shadesMeans};
-ghost use Rattle.shades.specs.Tones.{weightOf, spreadOf, toneOf, toneNth};
+ghost use Rattle.shades.specs.Aside.{weightOf, spreadOf, toneOf, toneNth};
 
 // How many bytes were written, or why none.
 pub enum Output {

@@ -12,7 +12,7 @@ use Rattle.laws.specs.Lists.{listed, packed}
 use Rattle.laws.proofs.Order.{split}
 use Rattle.laws.proofs.Packed.{listed-at, listed-ext}
 use Rattle.sensor.specs.Shade.{shadeBy, element, shadeOf}
-use Rattle.strips.specs.Strips.{eight, weightOf, thresholdAt, spreadOf, sumOf, Weighed, lowBy, highBy, lowOf, highOf}
+use Rattle.strips.specs.Aside.{eight, weightOf, thresholdAt, spreadOf, sumOf, Weighed, lowBy, highBy, lowOf, highOf}
 
 -- ---- one column: the tests that a shade is made of, made of its bits
 

@@ -1,2 +1,2 @@
 -- Step 6 of light to shade by the row.
-pub mod Strips
+pub mod Aside

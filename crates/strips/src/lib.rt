@@ -6,7 +6,7 @@ ghost use lib.ListN.{length, getD};
 ghost use Rattle.laws.specs.Pick.{pick};
 ghost use Rattle.laws.specs.Lists.{listed};
 ghost use Rattle.sensor.specs.Shade.{shadeBy};
-ghost use Rattle.strips.specs.Strips.{lowOf, highOf, spreadOf, lowBy, highBy, sumOf, Weighed};
+ghost use Rattle.strips.specs.Aside.{lowOf, highOf, spreadOf, lowBy, highBy, sumOf, Weighed};
 
 // One of two bytes, by a test.
 fn either(t: bool, a: u8, b: u8) -> u8

@@ -18,7 +18,7 @@ use Rattle.sensor.proofs.Rows as sensed
 use Rattle.tiles.specs.Tiles.{place, shadeIn, areaOf, Bytes}
 use Rattle.laws.specs.Lists.{listed, packed}
 use Rattle.tiles.specs.Picture.{pictureShade, lowByte, highByte, pictureByte, pictureOf}
-use Rattle.tiles.specs.Bulk.{pixels}
+use Rattle.tiles.specs.Aside.{pixels}
 use Rattle.laws.proofs.Packed.{packed-ext, packed-of, listed-length, listed-at, listed-ext, listed-of}
 use Rattle.tiles.proofs.Pixels.{pixels-length, pixels-bytes, pixels-passed}
 

@@ -7,7 +7,7 @@ use lib.ListN.{length, getD, set}
 use lib.Seq.{ext-getD}
 use Rattle.tiles.specs.Tiles.{place, shadeIn, Bytes}
 use Rattle.tiles.specs.Picture.{pictureShade, lowByte, highByte}
-use Rattle.tiles.specs.Bulk.{putNth, pixels}
+use Rattle.tiles.specs.Aside.{putNth, pixels}
 use Rattle.tiles.proofs.Pixels.{by-place, stored, stored-length, stored-first, stored-second, stored-other, put-elsewhere, pixels-keep, pixels-length, pixels-bytes, pixels-passed}
 use Rattle.tiles.proofs.Area.{columnOf, rowOf, byteOf, byteOf-low, byteOf-high, Stands, stands, area-byte}
 use Rattle.laws.proofs.Packed.{packed-ext}

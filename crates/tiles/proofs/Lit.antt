@@ -12,7 +12,7 @@ use Rattle.sensor.proofs.Rows.{Alike, rows}
 use Rattle.sensor.proofs.Lit.{light-alike}
 use Rattle.tiles.specs.Tiles.{putAt}
 use Rattle.tiles.specs.Picture.{pictureOf}
-use Rattle.tiles.specs.Bulk.{putNth, pixels}
+use Rattle.tiles.specs.Aside.{putNth, pixels}
 use Rattle.tiles.proofs.Area.{picture-lit}
 
 module _ {lit mit : ℕ → ℕ → ℕ} (alike : Alike lit mit) (regs : List ℕ) where

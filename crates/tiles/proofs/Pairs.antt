@@ -13,12 +13,12 @@ use Rattle.laws.proofs.Packed.{packed-ext, listed-at}
 use Rattle.lighting.specs.declared.Setting.{Setting}
 use Rattle.lighting.specs.Taken.{settingOf}
 use Rattle.sensor.specs.Shade.{valueAt, shadeOf, shadeAt}
-use Rattle.rows.specs.Rows.{valueRow}
-use Rattle.strips.specs.Strips.{lowOf, highOf}
+use Rattle.rows.specs.Aside.{valueRow}
+use Rattle.strips.specs.Aside.{lowOf, highOf}
 use Rattle.tiles.specs.Tiles.{place, Bytes}
 use Rattle.tiles.specs.Picture.{lowByte, highByte, pictureByte, pictureOf}
-use Rattle.tiles.specs.Bulk.{pixels}
-use Rattle.tiles.specs.Pairs.{pairAt, putPair, putPairs}
+use Rattle.tiles.specs.Aside.{pixels}
+use Rattle.tiles.specs.Aside.{pairAt, putPair, putPairs}
 use Rattle.tiles.proofs.Run.{pixels-none, pixels-join}
 use Rattle.tiles.proofs.Pixels.{by-place, stored-first, stored-second, stored-other, pixels-length, pixels-bytes}
 use Rattle.tiles.proofs.Area.{columnOf, rowOf, stands, whole, picture-made}

@@ -14,7 +14,7 @@ use Rattle.sensor.specs.Shade.{shadeAt, pixelAt}
 use Rattle.sensor.proofs.Facts.{shade-small}
 use Rattle.tiles.specs.Tiles.{place, putAt, shadeIn, Bytes}
 use Rattle.tiles.specs.Picture.{pictureShade}
-use Rattle.tiles.specs.Bulk.{putNth, pixels}
+use Rattle.tiles.specs.Aside.{putNth, pixels}
 use Rattle.tiles.proofs.Run.{put-length, pixels-suc}
 
 -- ---- shades

@@ -8,7 +8,7 @@ use lib.ListN.{length, length-set}
 use borrow.Author.Tests.{le-leb, lt-leb}
 use Rattle.laws.proofs.Order.{split}
 use Rattle.tiles.specs.Tiles.{putAt}
-use Rattle.tiles.specs.Bulk.{putNth, pixels}
+use Rattle.tiles.specs.Aside.{putNth, pixels}
 
 pub put-length : (ram : List ℕ) (x y shade : ℕ) → length (putAt ram x y shade) ≡ length ram
 unfolding putAt

@@ -1,5 +1,4 @@
 -- Step 7 of light to shade, in the paper's order.
 pub mod Tiles
 pub mod Picture
-pub mod Bulk
-pub mod Pairs
+pub mod Aside

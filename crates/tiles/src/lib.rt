@@ -7,12 +7,12 @@ ghost use lib.ListN.{length};
 ghost use Rattle.laws.specs.Bits.{putBit};
 ghost use Rattle.lighting.specs.Taken.{Asked};
 ghost use Rattle.lighting.specs.Light.{byteAt};
-ghost use Rattle.rows.specs.Rows.{Carried};
-ghost use Rattle.strips.specs.Strips.{spreadOf};
+ghost use Rattle.rows.specs.Aside.{Carried};
+ghost use Rattle.strips.specs.Aside.{spreadOf};
 ghost use Rattle.tiles.specs.Tiles.{putAt};
 ghost use Rattle.tiles.specs.Picture.{lowByte, highByte, pictureOf};
-ghost use Rattle.tiles.specs.Bulk.{putNth, pixels};
-ghost use Rattle.tiles.specs.Pairs.{putPairs};
+ghost use Rattle.tiles.specs.Aside.{putNth, pixels};
+ghost use Rattle.tiles.specs.Aside.{putPairs};
 
 // The picture's offset in RAM bank 0, its bytes, and its pixels: 112 rows of 128.
 pub const PICTURE: usize = 0x100;

@@ -9,7 +9,7 @@ use borrow.Author.Tests.{eqb-true, lt-ltb, le-ltb, le-leb, lt-leb, eq-eqb, ne-eq
 use Rattle.laws.specs.Pick.{pick}
 use Rattle.laws.proofs.Order.{split}
 use Rattle.timing.specs.Timing.{nSet, totalOf, readingFrom, rowsRead, firstRow, due, candidate, rowOf, putPixel, writtenAt}
-use Rattle.tiles.specs.Bulk.{putNth, pixels}
+use Rattle.tiles.specs.Aside.{putNth, pixels}
 use Rattle.tiles.proofs.Run.{pixels-suc}
 use Rattle.timing.specs.Aside.{pictureFrom, doneBy}
 use Rattle.laws.proofs.Bools.{both-left}

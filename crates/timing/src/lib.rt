@@ -8,7 +8,7 @@ ghost use lib.Count.{ones};
 ghost use lib.ListN.{length};
 ghost use Rattle.lighting.specs.Taken.{exposureOf};
 ghost use Rattle.lighting.specs.Light.{byteAt};
-ghost use Rattle.tiles.specs.Bulk.{pixels};
+ghost use Rattle.tiles.specs.Aside.{pixels};
 ghost use Rattle.timing.specs.Lent.{banksAllowed, romAllowed, ramAllowed};
 ghost use Rattle.timing.specs.Registers.{allZero};
 ghost use Rattle.timing.specs.Timing.{nSet, clocks, totalOf};

@@ -6,7 +6,7 @@ use native.Mathlib.Omega.{arith}
 use lib.ListN.{getD, length-set}
 use Rattle.laws.proofs.Packed.{listed-at}
 use Rattle.placing.specs.Placing.{placedByte, placedArea}
-use Rattle.placing.specs.Eight.{lowsAt, highsAt}
+use Rattle.placing.specs.Aside.{lowsAt, highsAt}
 use Rattle.placing.proofs.Shown.{Shown, shown-none, shown-to, shown-more, shown-all, shown-low, shown-high}
 use borrow.Author.Needs.{needs}
 use Rattle.placing.proofs.put_rows.Statement.{statement}

@@ -2,7 +2,7 @@
 use Prim.Native.Nat.{ℕ, _-_, _*_, _≤_}
 use native.Mathlib.Omega.{arith}
 use Rattle.laws.proofs.Filled.{Filled, filled-none, filled-more, filled-end}
-use Rattle.placing.specs.Eight.{sumAt}
+use Rattle.placing.specs.Aside.{sumAt}
 use borrow.Author.Needs.{needs}
 use Rattle.placing.proofs.sums.Statement.{statement}
 use Rattle.placing.proofs.sums.Tie as tie

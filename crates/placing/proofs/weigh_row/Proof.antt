@@ -6,8 +6,8 @@ use native.Mathlib.Omega.{arith}
 use lib.ListN.{getD}
 use Rattle.laws.proofs.Filled.{Filled, filled-none, filled-more, filled-end}
 use Rattle.laws.proofs.Packed.{listed-at}
-use Rattle.shades.specs.Tones.{weightOf}
-use Rattle.placing.specs.Eight.{weighed, weighedAt}
+use Rattle.shades.specs.Aside.{weightOf}
+use Rattle.placing.specs.Aside.{weighed, weighedAt}
 use borrow.Author.Needs.{needs}
 use Rattle.placing.proofs.weigh_row.Statement.{statement}
 use Rattle.placing.proofs.weigh_row.Tie as tie

@@ -5,7 +5,7 @@ use native.Mathlib.Omega.{arith}
 use Rattle.laws.proofs.Filled.{Filled, filled-none, filled-end, filled-to}
 use Rattle.lighting.specs.Light.{byteAt}
 use Rattle.sensor.specs.Shade.{valueAt}
-use Rattle.rows.specs.Rows.{Carried}
+use Rattle.rows.specs.Aside.{Carried}
 use borrow.Author.Needs.{needs}
 use Rattle.readings.proofs.Parts.{filled-part, row-listed}
 use Rattle.readings.proofs.put_values.Statement.{statement}

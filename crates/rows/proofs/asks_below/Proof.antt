@@ -1,7 +1,7 @@
 -- `rows::asks_below` meets its contract: each test is the definition's. Assumes nothing.
 use borrow.Author.Needs.{needs}
 use Rattle.laws.proofs.Bools.{left-out, let-in}
-use Rattle.rows.specs.Rows.{asksBelow}
+use Rattle.rows.specs.Aside.{asksBelow}
 use Rattle.rows.proofs.asks_below.Statement.{statement}
 use Rattle.rows.proofs.asks_below.Tie as tie
 

@@ -5,7 +5,7 @@ use native.Mathlib.Omega.{arith}
 use borrow.Author.Needs.{needs}
 use lib.ListN.{getD}
 use Rattle.laws.proofs.Filled.{Filled, filled-none, filled-more, filled-end}
-use Rattle.rows.specs.Rows.{lessOf}
+use Rattle.rows.specs.Aside.{lessOf}
 use Rattle.rows.proofs.Kept.{Kept, kept-all, kept-less, kept-here}
 use Rattle.rows.proofs.negate.Statement.{statement}
 use Rattle.rows.proofs.negate.Tie as tie

@@ -1,7 +1,7 @@
 -- `rows::negating` meets its contract: each test is the definition's. Assumes nothing.
 use borrow.Author.Needs.{needs}
 use Rattle.laws.proofs.Bools.{left-out, let-in}
-use Rattle.rows.specs.Rows.{negates}
+use Rattle.rows.specs.Aside.{negates}
 use Rattle.rows.proofs.negating.Statement.{statement}
 use Rattle.rows.proofs.negating.Tie as tie
 

@@ -5,7 +5,7 @@ use Prim.Native.Nat.{ℕ, _+_, _*_, _<_}
 use native.Mathlib.Omega.{arith}
 use borrow.Author.Needs.{needs}
 use Rattle.lighting.specs.Light.{byteAt}
-use Rattle.rows.specs.Rows.{asksBelow}
+use Rattle.rows.specs.Aside.{asksBelow}
 use Rattle.rows.proofs.Values.{row-lessened, row-negated, row-kept, carried-on, carried-none}
 use Rattle.rows.proofs.next_row.Statement.{statement}
 use Rattle.rows.proofs.next_row.Tie as tie

@@ -5,7 +5,7 @@ use native.Mathlib.Omega.{arith}
 use borrow.Author.Needs.{needs}
 use Rattle.lighting.specs.Light.{turned}
 use Rattle.laws.proofs.Filled.{Filled, filled-none, filled-more, filled-end, filled-to}
-use Rattle.shades.specs.Tones.{toneNth}
+use Rattle.shades.specs.Aside.{toneNth}
 use Rattle.shades.proofs.Tones.{tone-same}
 use Rattle.shades.proofs.put_rows.Statement.{statement}
 use Rattle.shades.proofs.put_rows.Tie as tie

@@ -5,7 +5,7 @@ use Prim.Native.Nat.{ℕ, _+_, _-_, _*_, _≤_}
 use native.Mathlib.Omega.{arith}
 use lib.ListN.{getD}
 use Rattle.laws.proofs.Filled.{Filled, filled-none, filled-more, filled-end, filled-to}
-use Rattle.shades.specs.Tones.{spreadOf}
+use Rattle.shades.specs.Aside.{spreadOf}
 use Rattle.shades.proofs.Tones.{spread-same}
 use borrow.Author.Needs.{needs}
 use Rattle.shades.proofs.spread.Statement.{statement}

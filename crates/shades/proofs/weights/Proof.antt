@@ -2,7 +2,7 @@
 use Prim.Native.Nat.{_+_, _-_, _*_, _≤_}
 use native.Mathlib.Omega.{arith}
 use Rattle.laws.proofs.Filled.{Filled, filled-none, filled-more, filled-end, filled-to}
-use Rattle.shades.specs.Tones.{weightOf}
+use Rattle.shades.specs.Aside.{weightOf}
 use Rattle.shades.proofs.Tones.{eight-weight}
 use borrow.Author.Needs.{needs}
 use Rattle.shades.proofs.weights.Statement.{statement}

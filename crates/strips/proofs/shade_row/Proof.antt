@@ -4,7 +4,7 @@ use Prim.Native.Nat.{_-_, _≤_}
 use native.Mathlib.Omega.{arith}
 use borrow.Author.Needs.{needs}
 use Rattle.laws.proofs.Filled.{Filled, filled-none, filled-more, filled-end}
-use Rattle.strips.specs.Strips.{lowOf, highOf}
+use Rattle.strips.specs.Aside.{lowOf, highOf}
 use Rattle.strips.proofs.Weights.{low-weighed, high-weighed, low-sum, high-sum}
 use Rattle.strips.proofs.shade_row.Statement.{statement}
 use Rattle.strips.proofs.shade_row.Tie as tie

@@ -4,7 +4,7 @@ use Prim.Native.Nat.{_+_, _-_, _*_, _<_, _≤_}
 use native.Mathlib.Omega.{arith}
 use borrow.Author.Needs.{needs}
 use Rattle.laws.proofs.Filled.{Filled, filled-none, filled-more, filled-to, filled-end}
-use Rattle.strips.specs.Strips.{thresholdAt, spreadOf}
+use Rattle.strips.specs.Aside.{thresholdAt, spreadOf}
 use Rattle.strips.proofs.Weights.{spread-at}
 use Rattle.strips.proofs.spread.Statement.{statement}
 use Rattle.strips.proofs.spread.Tie as tie

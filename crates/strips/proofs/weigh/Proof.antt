@@ -3,7 +3,7 @@ use Prim.Native.Nat.{_-_, _≤_}
 use native.Mathlib.Omega.{arith}
 use borrow.Author.Needs.{needs}
 use Rattle.laws.proofs.Filled.{Filled, filled-none, filled-more, filled-end}
-use Rattle.strips.specs.Strips.{lowBy, highBy}
+use Rattle.strips.specs.Aside.{lowBy, highBy}
 use Rattle.strips.proofs.weigh.Statement.{statement}
 use Rattle.strips.proofs.weigh.Tie as tie
 

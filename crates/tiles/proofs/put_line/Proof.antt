@@ -5,7 +5,7 @@ use native.Mathlib.Omega.{arith}
 use lib.ListN.{length, length-set}
 use borrow.Author.Needs.{needs}
 use Rattle.lighting.specs.Light.{byteAt}
-use Rattle.tiles.specs.Pairs.{putPair, putPairs}
+use Rattle.tiles.specs.Aside.{putPair, putPairs}
 use Rattle.tiles.proofs.Pairs.{low-made, high-made, pairs-none, pairs-more, pair-stored}
 use Rattle.tiles.proofs.put_line.Statement.{statement}
 use Rattle.tiles.proofs.put_line.Tie as tie

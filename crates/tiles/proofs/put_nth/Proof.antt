@@ -4,7 +4,7 @@ use native.Mathlib.Omega.{arith}
 use borrow.Author.Needs.{needs}
 use Rattle.lighting.specs.Light.{byteAt}
 use Rattle.sensor.proofs.Facts.{shade-small}
-use Rattle.tiles.specs.Bulk.{putNth}
+use Rattle.tiles.specs.Aside.{putNth}
 use Rattle.tiles.proofs.Pixels.{shade-same}
 use Rattle.tiles.proofs.put_nth.Statement.{statement}
 use Rattle.tiles.proofs.put_nth.Tie as tie

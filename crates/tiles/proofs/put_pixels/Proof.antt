@@ -1,7 +1,7 @@
 -- `tiles::put_pixels` meets its contract. The invariant: the RAM is the pixels from `from` to j put into what it was. Assumes nothing.
 use Rattle.tiles.proofs.Run.{pixels-none, pixels-join}
 use Rattle.lighting.specs.Light.{byteAt}
-use Rattle.tiles.specs.Bulk.{pixels}
+use Rattle.tiles.specs.Aside.{pixels}
 use lib.ListN.{length}
 use native.Mathlib.Omega.{arith}
 use Prim.Native.Nat.{_≤_, _-_}

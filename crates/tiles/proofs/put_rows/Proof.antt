@@ -5,8 +5,8 @@ use native.Mathlib.Omega.{arith}
 use lib.ListN.{length}
 use borrow.Author.Needs.{needs}
 use Rattle.lighting.specs.Light.{byteAt}
-use Rattle.rows.specs.Rows.{Carried}
-use Rattle.tiles.specs.Pairs.{putPairs}
+use Rattle.rows.specs.Aside.{Carried}
+use Rattle.tiles.specs.Aside.{putPairs}
 use Rattle.tiles.proofs.Pairs.{pairs-none, pairs-join}
 use Rattle.tiles.proofs.put_rows.Statement.{statement}
 use Rattle.tiles.proofs.put_rows.Tie as tie

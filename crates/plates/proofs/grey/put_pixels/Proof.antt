@@ -8,7 +8,7 @@ use Rattle.laws.specs.Lists.{listed}
 use Rattle.laws.proofs.Packed.{listed-ext}
 use Rattle.lighting.specs.Light.{turned}
 use Rattle.tiles.specs.Tiles.{shadeIn}
-use Rattle.shades.specs.Tones.{toneNth}
+use Rattle.shades.specs.Aside.{toneNth}
 use Rattle.plates.specs.Grey.{greyOf, greyAt}
 use borrow.Author.Needs.{needs}
 use Rattle.plates.proofs.grey.put_pixels.Statement.{statement}

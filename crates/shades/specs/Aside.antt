@@ -1,5 +1,5 @@
--- Each pixel as a sum of what its two bits add, or the negative of it: devices of functions that only other crates of the house
--- call, which need not be believed. Assumes nothing.
+-- Aside: devices of contracts between functions. Nothing here need be believed: every use of it is tied by a proof to the definitions beside it.
+-- Each pixel as a sum of what its two bits add, or the negative of it. Assumes nothing.
 use mathlib.Core.Bool.{Bool}
 use mathlib.Core.List.{List}
 use Prim.Native.Nat.{ℕ, _+_, _-_, _*_, _/_, _%_, _^_}

@@ -1,4 +1,5 @@
--- A row's shades as bytes: devices of contracts between crates, which need not be believed. Assumes nothing.
+-- Aside: devices of contracts between functions. Nothing here need be believed: every use of it is tied by a proof to the definitions beside it.
+-- A row's shades as bytes. Assumes nothing.
 use mathlib.Core.List.{List, [], _∷_}
 use Prim.Native.Nat.{ℕ, _+_, _*_, _/_, _%_, _<_, _≤_}
 use lib.ListN.{getD}

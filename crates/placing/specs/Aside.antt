@@ -1,4 +1,5 @@
--- Eight greys that become two bytes: devices of private functions, which need not be believed. Assumes nothing.
+-- Aside: devices of contracts between functions. Nothing here need be believed: every use of it is tied by a proof to the definitions beside it.
+-- Eight greys that become two bytes. Assumes nothing.
 use mathlib.Core.List.{List}
 use Prim.Native.Nat.{ℕ, _+_, _/_, _%_, _<_, _≤_}
 use lib.Bits.{bitAnd}
@@ -6,7 +7,7 @@ use lib.Dec.{eqb}
 use lib.ListN.{getD}
 use Rattle.laws.specs.Lists.{packed}
 use Rattle.laws.specs.Pick.{pick}
-use Rattle.shades.specs.Tones.{weightOf}
+use Rattle.shades.specs.Aside.{weightOf}
 use Rattle.placing.specs.Placing.{shadeOf}
 
 -- the low bits of the eight pixels from a place on, and the high bits

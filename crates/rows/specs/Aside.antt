@@ -1,4 +1,5 @@
--- Rows of values, and rows of step 4 values with 128 added: devices of contracts between crates, which need not be believed. Assumes nothing.
+-- Aside: devices of contracts between functions. Nothing here need be believed: every use of it is tied by a proof to the definitions beside it.
+-- Rows of values, and rows of step 4 values with 128 added. Assumes nothing.
 use mathlib.Core.Bool.{Bool, true, _&&_}
 use mathlib.Core.List.{List}
 use mathlib.Core.Path.{_≡_}
