@@ -79,6 +79,7 @@ fn put_rows(ram: &[u8], weights: &[u8; 128], low: u8, high: u8, negative: bool, 
     }
 }
 
+// All pixels, row by row, each as what its low bit and its high bit add, or the negative of it: shades by 1 and 2, greys by 85 and 170.
 pub fn put_tones(ram: &[u8], low: u8, high: u8, negative: bool, pixels: &mut [u8])
     requires { ⌜ (8192 ≤ length (now ram)) × (length (now pixels) ≡ 14336) ⌝ }
     requires { ⌜ low + high < 256 ⌝ }
