@@ -62,16 +62,15 @@ fn row_3(store: &[u8], quarters: u8, row: usize, out: &mut [u8])
     out[127] = pixel(store, 0x3, quarters, 127, row);
 }
 
+// Modes C and D ask nothing of the columns beside a pixel, so that no column stands apart.
 fn row_c(store: &[u8], quarters: u8, row: usize, out: &mut [u8])
     requires { ⌜ Inside (length (now store)) 0 row 8 120 ⌝ }
     requires { ⌜ (quarters ≤ 20) × (length (now out) ≡ 128) ⌝ }
     ensures { λ _. ⌜ now (out .exit) ≡ rowBy 0xC quarters (byteAt (now (store .entry))) row ⌝ }
 {
-    out[0] = pixel(store, 0xC, quarters, 0, row);
-    for x in 1..127 {
+    for x in 0..128 {
         out[x] = raise(filters::mode_c(quarters, nine(store, x, row)));
     }
-    out[127] = pixel(store, 0xC, quarters, 127, row);
 }
 
 fn row_d(store: &[u8], quarters: u8, row: usize, out: &mut [u8])
@@ -79,11 +78,9 @@ fn row_d(store: &[u8], quarters: u8, row: usize, out: &mut [u8])
     requires { ⌜ (quarters ≤ 20) × (length (now out) ≡ 128) ⌝ }
     ensures { λ _. ⌜ now (out .exit) ≡ rowBy 0xD quarters (byteAt (now (store .entry))) row ⌝ }
 {
-    out[0] = pixel(store, 0xD, quarters, 0, row);
-    for x in 1..127 {
+    for x in 0..128 {
         out[x] = raise(filters::mode_d(quarters, nine(store, x, row)));
     }
-    out[127] = pixel(store, 0xD, quarters, 127, row);
 }
 
 fn row_e(store: &[u8], quarters: u8, row: usize, out: &mut [u8])
