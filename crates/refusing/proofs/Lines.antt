@@ -25,8 +25,8 @@ use Rattle.lines.specs.declared.line.Frame.the-variants.{Reset, Read, Write, Ti
 use Rattle.lines.specs.Hex.{printed}
 use Rattle.lines.specs.Line.{numberAt, frameOf}
 use Rattle.lines.proofs.Spelt.{text-number}
-use Rattle.script.specs.Answer.{answerText}
-use Rattle.script.specs.Session.{World, world, step, rowTaken, rowImage, rowText, frameStep, stepOf}
+use Rattle.session.specs.Answer.{answerText}
+use Rattle.session.specs.Session.{World, world, step, rowTaken, rowImage, rowText, frameStep, stepOf}
 use Rattle.refusing.specs.Line.{inStep, leavesWorld, lineTable, lineDone}
 use Rattle.refusing.proofs.Refused.{carried}
 

@@ -13,8 +13,8 @@ use Rattle.capture.specs.Calls.{tickRows, ticked}
 use Rattle.lines.specs.declared.line.Frame.{Frame}
 use Rattle.lines.specs.declared.line.Frame.the-variants.{Reset, Read, Write, Tick, Row as RowFrame, Malformed}
 use Rattle.lines.specs.Line.{numberAt}
-use Rattle.script.specs.Answer.{answerText}
-use Rattle.script.specs.Session.{World, world, Step, step, resetStep, afterRead, afterWrite, afterTick, rowTaken}
+use Rattle.session.specs.Answer.{answerText}
+use Rattle.session.specs.Session.{World, world, Step, step, resetStep, afterRead, afterWrite, afterTick, rowTaken}
 
 -- the number that is printed: the first two digits
 abbrev pub inStep : Step → ℕ

@@ -9,10 +9,10 @@ use Rattle.lines.specs.declared.line.Frame.{Frame}
 use Rattle.lines.specs.declared.line.Frame.the-variants.{Reset, Read, Write, Tick, Row, Malformed}
 use Rattle.lines.specs.Line.{frameOf}
 use Rattle.lines.specs.Kinds.{isMalformed}
-use Rattle.script.specs.Answer.{answerText, numberSaid}
-use Rattle.script.specs.Session.{World, stepOf}
+use Rattle.session.specs.Answer.{answerText, numberSaid}
+use Rattle.session.specs.Session.{World, stepOf}
 use Rattle.script.specs.Text.{linesOf}
-use Rattle.script.proofs.Six.{number-said, frame-lower}
+use Rattle.session.proofs.Six.{number-said, frame-lower}
 use Rattle.salvaging.specs.Kept.{isFrame, accepted}
 use Rattle.salvaging.specs.Salvage.{cleaned}
 use Rattle.salvaging.proofs.Cleaned.{Good, nothing, also, good-kept, cleaned-lines}

@@ -7,7 +7,7 @@ use native.Mathlib.Nat.{zero-add, add-zero}
 use native.Mathlib.Numerals.{add-one}
 use native.Mathlib.Omega.{arith}
 use lib.Dec.{ltb, leb}
-use lib.ListN.{length, getD, take, drop, length-append, length-take, length-drop, drop-of-length-le}
+use lib.ListN.{length, getD, take, drop, replicate, length-append, length-take, length-drop, drop-of-length-le}
 use lib.Seq.{drop-cons, take-all, take-suc, take-append-le, take-append-add, getD-drop, length-take-le}
 use borrow.Author.Tests.{eq-eqb, ne-eqb, lt-ltb, le-ltb, le-leb, ltb-true, leb-true}
 use Rattle.laws.proofs.Bools.{both-left, both-right}
@@ -15,9 +15,10 @@ use Rattle.laws.proofs.Pick.{never}
 use Rattle.laws.proofs.Order.{split}
 use Rattle.script.specs.declared.text.Reader.{Reader}
 use Rattle.lines.specs.Hex.{placed}
-use Rattle.script.specs.Session.{World, step, stepOf}
-use Rattle.script.specs.Said.{Printed, Ends}
-use Rattle.script.specs.Pieces.{Reading, Feeding, feeding, lineEnded, lineKept, byteKept, byteRead, fed, readerOf, heldBy, opened, feedMeans, lastLine, finishMeans}
+use Rattle.session.specs.Session.{World, Step, step, stepOf}
+use Rattle.session.specs.Aside.{Printed}
+use Rattle.session.proofs.Steps.{drop-zeros}
+use Rattle.script.specs.Pieces.{Ends, Reading, Feeding, feeding, lineEnded, lineKept, byteKept, byteRead, fed, readerOf, heldBy, opened, feedMeans, lastLine, finishMeans}
 use Rattle.lines.proofs.Placed.{placed-none, placed-next, take-placed}
 
 abbrev pub reading : World → List ℕ → List ℕ → ℕ → Reading
@@ -244,3 +245,19 @@ pub begun : (rom : List ℕ) (w : World) (r : Reader) (piece out : List ℕ) (he
     → feeding out (fed rom (length out) (reading w (take held (r .line)) [] 0) piece) ≡ feedMeans rom w r piece out
 unfolding feedMeans opened heldBy
 begun rom w r piece out held e = ap (λ h. feeding out (fed rom (length out) (reading w (take h (r .line)) [] 0) piece)) e
+
+-- bytes put in front of zeros are what a reader holds
+pub reader-made : (line : List ℕ) (held : ℕ) (x : List ℕ) → length line ≤ 261 → held ≡ length line → x ≡ placed (replicate 261 0) 0 (take 261 line)
+    → _≡_ {A = Reader} (record { line = x; held = held }) (readerOf line)
+unfolding placed readerOf
+reader-made line held x h e p =
+    let q : x ≡ line ++ replicate (261 - length line) 0 =
+    p
+    ∙ ap (λ t. t ++ drop (0 + length t) (replicate 261 0)) (take-all 261 line h)
+    ∙ ap (λ k. line ++ drop k (replicate 261 0)) (zero-add (length line))
+    ∙ ap (λ r. line ++ r) (drop-zeros 261 (length line)) in
+    (λ i. record { line = q i; held = e i })
+
+-- the same step
+pub printed-as : {s t : Step} {w : World} {out : List ℕ} {at : ℕ} {out′ : List ℕ} {end : ℕ} → s ≡ t → Printed s w out at out′ end → Printed t w out at out′ end
+printed-as {s} {t} {w} {out} {at} {out′} {end} e p = subst (λ (x : Step). Printed x w out at out′ end) e p

@@ -8,7 +8,7 @@ use lib.ListN.{length, take, drop, replicate, length-drop, length-replicate, tak
 use Rattle.lines.specs.Hex.{placed}
 use Rattle.lines.proofs.Placed.{take-placed}
 use Rattle.script.specs.declared.text.Reader.{Reader}
-use Rattle.script.specs.Session.{World, Step, step}
+use Rattle.session.specs.Session.{World, Step, step}
 use Rattle.script.specs.Text.{after, sessionOf}
 use Rattle.script.specs.Pieces.{Reading, readAll, fed, opened, feedMeans, readerOf, inPieces, joined, newReader}
 use Rattle.script.specs.Loop.{Playing, playingFrom, call, called, pieceRead, looped}

@@ -23,7 +23,7 @@ use Rattle.lines.proofs.Digits.{second-half, clash, hex-within}
 use Rattle.lines.proofs.Frames.{bad}
 use Rattle.lines.proofs.Placed.{placed-none, placed-one, placed-next, length-placed}
 use Rattle.recording.proofs.Recorded.{Sayable, reset, read, write, tick, row, written-read, written-byte}
-use Rattle.script.specs.Session.{World, world, step, rowTaken, rowImage, rowText, frameStep, stepOf}
+use Rattle.session.specs.Session.{World, world, step, rowTaken, rowImage, rowText, frameStep, stepOf}
 use Rattle.script.specs.Text.{begins, linesOf, after, played, sessionOf}
 use Rattle.script.specs.Recording.{Call, callLines, recordingOf, rowLent, callStep, callsMade}
 

@@ -17,8 +17,8 @@ use Rattle.controller.specs.Outcome.{numberOf}
 use Rattle.script.specs.declared.text.Reader.{Reader}
 use Rattle.lines.specs.declared.line.Frame.the-variants.{Malformed}
 use Rattle.lines.specs.Line.{frameOf}
-use Rattle.script.specs.Answer.{answerText}
-use Rattle.script.specs.Session.{World, Step, step, refused, frameStep, stepOf}
+use Rattle.session.specs.Answer.{answerText}
+use Rattle.session.specs.Session.{World, Step, step, refused, frameStep, stepOf}
 use Rattle.script.specs.Text.{begins, linesOf, after, played, sessionOf}
 use Rattle.script.specs.Pieces.{Reading, lineEnded, lineKept, byteKept, byteRead, readAll, noRoom, fed, readerOf, newReader, heldBy, opened, lastLine, finishMeans, inPieces, joined}
 use Rattle.lines.proofs.Digits.{and-false}

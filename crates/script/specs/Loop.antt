@@ -3,7 +3,7 @@ use mathlib.Core.List.{List, [], _∷_, _++_}
 use Prim.Native.Nat.{ℕ, zero, suc, _+_}
 use lib.ListN.{length, take, drop}
 use Rattle.script.specs.declared.text.Reader.{Reader}
-use Rattle.script.specs.Session.{World, Step}
+use Rattle.session.specs.Session.{World, Step}
 use Rattle.script.specs.Text.{after}
 use Rattle.script.specs.Pieces.{Feeding, newReader, feedMeans, finishMeans}
 

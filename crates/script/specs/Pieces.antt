@@ -1,14 +1,16 @@
+-- Aside: devices of contracts between functions. Nothing here need be believed: every use of it is tied by a proof to the definitions beside it.
 -- A session that is read in pieces, byte by byte. Assumes nothing.
+use mathlib.Core.Path.{_≡_}
 use mathlib.Core.Bool.{Bool, _&&_}
 use mathlib.Core.List.{List, [], _∷_, _++_}
-use Prim.Native.Nat.{ℕ, _+_, _-_, min}
+use Prim.Native.Nat.{ℕ, _+_, _-_, _<_, _≤_, min}
 use lib.Dec.{eqb, ltb}
-use lib.ListN.{length, take, replicate}
+use lib.ListN.{length, getD, take, replicate}
 use Rattle.laws.specs.Pick.{pick}
 use Rattle.script.specs.declared.text.Reader.{Reader}
 use Rattle.script.specs.declared.text.Fed.{Fed}
 use Rattle.lines.specs.Hex.{placed}
-use Rattle.script.specs.Session.{World, Step, world, step, stepOf}
+use Rattle.session.specs.Session.{World, Step, world, step, stepOf}
 use Rattle.script.specs.Text.{after}
 
 -- the world, the first bytes of the line that has begun, what was printed, and how many bytes were read
@@ -108,3 +110,10 @@ inPieces rom w r (piece ∷ pieces) =
 abbrev pub joined : List (List ℕ) → List ℕ
 joined [] = []
 joined (piece ∷ pieces) = piece ++ joined pieces
+
+-- the line that begins at a place of a piece ends at an LF, the first from there on, or at the piece's end
+pub record Ends (piece : List ℕ) (from end : ℕ) : Type 0 where
+  pub after : from ≤ end
+  pub inside : end ≤ length piece
+  pub none : (k : ℕ) → from ≤ k → k < end → getD piece k 0 ≡ 0x0A → ⊥
+  pub found : end < length piece → getD piece end 0 ≡ 0x0A

@@ -8,7 +8,7 @@ use Rattle.lines.specs.declared.line.Frame.{Frame}
 use Rattle.lines.specs.declared.line.Frame.the-variants.{Reset, Read, Write, Tick, Row, Malformed}
 use Rattle.lines.specs.Hex.{placed}
 use Rattle.recording.specs.Record.{lineOf, ended}
-use Rattle.script.specs.Session.{World, Step, world, step, rowText, frameStep}
+use Rattle.session.specs.Session.{World, Step, world, step, rowText, frameStep}
 use Rattle.script.specs.Text.{after}
 
 -- a call as it is recorded: its frame, and the bytes of an image row

@@ -3,7 +3,7 @@ use mathlib.Core.List.{List, [], _∷_, _++_}
 use Prim.Native.Nat.{ℕ}
 use lib.Dec.{eqb}
 use Rattle.laws.specs.Pick.{pick}
-use Rattle.script.specs.Session.{World, Step, step, stepOf}
+use Rattle.session.specs.Session.{World, Step, step, stepOf}
 
 -- a byte in front of the first line; where there is none, a line of its own
 abbrev pub begins : ℕ → List (List ℕ) → List (List ℕ)

@@ -1,4 +1,2 @@
-// The bus script: one step of a session, and a text in pieces to its answers.
-pub mod answer;
-pub mod session;
+// The bus script: a text in pieces to its answers.
 pub mod text;

@@ -1,11 +1,11 @@
 // A text to its answers, read in pieces that may be cut anywhere.
-use super::answer::ANSWER;
-use super::session::Stepped;
-use super::session::bytes_of;
-use super::session::line_done;
-use super::session::step;
 use controller::Controller;
 use layout::decode;
+use session::answer::ANSWER;
+use session::session::Stepped;
+use session::session::bytes_of;
+use session::session::line_done;
+use session::session::step;
 ghost use mathlib.Core.Path.{_≡_};
 ghost use mathlib.Core.Bool.{true, _&&_};
 ghost use mathlib.Core.List.{_++_};
@@ -14,9 +14,9 @@ ghost use lib.Dec.{leb, ltb};
 ghost use lib.ListN.{length, take};
 ghost use Rattle.layout.specs.Layout.{isRecord, decoded};
 ghost use Rattle.lines.specs.Hex.{placed};
-ghost use Rattle.script.specs.Session.{world, stepOf};
-ghost use Rattle.script.specs.Said.{Ends, Printed, said, saying};
-ghost use Rattle.script.specs.Pieces.{readerOf, newReader, fedAs, feedMeans, finishMeans};
+ghost use Rattle.session.specs.Session.{world, stepOf};
+ghost use Rattle.session.specs.Aside.{Printed, said, saying};
+ghost use Rattle.script.specs.Pieces.{Ends, readerOf, newReader, fedAs, feedMeans, finishMeans};
 
 // The bytes held of a line: one more than the longest line has.
 pub const HELD: usize = 261;

@@ -2,7 +2,7 @@
 use mathlib.Core.Path.{ap}
 use native.Mathlib.Omega.{arith}
 use borrow.Author.Needs.{needs}
-use Rattle.script.specs.Session.{world}
+use Rattle.session.specs.Session.{world}
 use Rattle.script.proofs.Loop.{moves-on}
 use Rattle.bus.proofs.play_some.Statement.{statement}
 use Rattle.bus.proofs.play_some.Tie as tie

@@ -4,9 +4,8 @@ use native.Mathlib.Omega.{arith}
 use lib.ListN.{take}
 use lib.Seq.{length-take-le}
 use Rattle.layout.specs.Layout.{decoded}
-use Rattle.script.specs.Session.{world, stepOf}
-use Rattle.script.proofs.Feeds.{held-on}
-use Rattle.script.proofs.Steps.{printed-as}
+use Rattle.session.specs.Session.{world, stepOf}
+use Rattle.script.proofs.Feeds.{held-on, printed-as}
 use Rattle.script.proofs.Whole.{as-it-stands}
 use borrow.Author.Needs.{needs}
 use Rattle.script.proofs.text.end_line.Statement.{statement}

@@ -8,9 +8,8 @@ use lib.ListN.{length, take}
 use borrow.Author.Needs.{needs}
 use Rattle.layout.specs.Layout.{isRecord, decoded}
 use Rattle.layout.proofs.Inverse.{record-parts}
-use Rattle.script.specs.Session.{world}
-use Rattle.script.specs.Said.{Ends}
-use Rattle.script.specs.Pieces.{readerOf, feedMeans}
+use Rattle.session.specs.Session.{world}
+use Rattle.script.specs.Pieces.{Ends, readerOf, feedMeans}
 use Rattle.script.proofs.Feeds.{Going, reading, leaving, going-start, going-on, going-line, going-done, goes-on, few-held, held-on, begun}
 use Rattle.script.proofs.text.feed.Statement.{statement}
 use Rattle.script.proofs.text.feed.Tie as tie

@@ -4,8 +4,8 @@ use native.Mathlib.Omega.{arith}
 use lib.ListN.{length, take}
 use lib.Seq.{length-take-le}
 use borrow.Author.Needs.{needs}
-use Rattle.script.specs.Session.{world, stepOf}
-use Rattle.script.specs.Said.{saying}
+use Rattle.session.specs.Session.{world, stepOf}
+use Rattle.session.specs.Aside.{saying}
 use Rattle.script.proofs.Feeds.{finish-none, finish-some}
 use Rattle.script.proofs.text.finish.Statement.{statement}
 use Rattle.script.proofs.text.finish.Tie as tie

@@ -3,8 +3,7 @@ use mathlib.Core.Path.{_≡_, sym, ap, _∙_}
 use native.Mathlib.Omega.{arith}
 use lib.ListN.{length, take}
 use lib.Seq.{length-take-le}
-use Rattle.script.proofs.Feeds.{few-held}
-use Rattle.script.proofs.Steps.{reader-made}
+use Rattle.script.proofs.Feeds.{few-held, reader-made}
 use borrow.Author.Needs.{needs}
 use Rattle.script.proofs.text.holding.Statement.{statement}
 use Rattle.script.proofs.text.holding.Tie as tie
