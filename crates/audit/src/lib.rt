@@ -1,0 +1,1 @@
+// What an audit says of a recording.
