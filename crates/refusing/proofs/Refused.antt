@@ -49,9 +49,16 @@ use Rattle.salvaging.proofs.Outcomes.{inSalvaging}
 use Rattle.layout.specs.Layout.{encoded, isRecord, decoded}
 use Rattle.layout.proofs.Inverse.{encode-decode}
 use Rattle.answers.specs.Packed.{packed, numberIn}
-use Rattle.embed.specs.Exports.{Called, called, asBytes, unread, resetBytes, readBytes, writeBytes, tickBytes, plainIn, exposureIn, chooseBytes, inspected, inspectBytes, filled, asDrawn, pictureBytes, asLine, recordBytes, asWritten, exportBytes, shadesBytes, placeBytes, readingsBytes, asRead, importBytes, asReported, salvageBytes}
-use Rattle.embed.proofs.Cases.{read-unread, read-done, write-unread, write-done, tick-unread, tick-done, choose-unread, choose-done, inspect-unread, inspect-done, place-unread, place-done, readings-unread, readings-done}
-use Rattle.embed.proofs.Only.{Says, packed-says, read-says, write-says, tick-says, choose-says, inspect-says, record-says, export-says, shades-says, place-says, readings-says, salvage-says}
+use Rattle.answers.specs.Called.{Called, called, asBytes, unread, filled, asWritten}
+use Rattle.embed.specs.Exports.{resetBytes, readBytes, writeBytes, tickBytes, plainIn, exposureIn, chooseBytes, inspected, inspectBytes}
+use Rattle.images.specs.Images.{asDrawn, pictureBytes, exportBytes, shadesBytes, placeBytes, readingsBytes, asRead, importBytes}
+use Rattle.recorder.specs.Recorder.{asLine, recordBytes, asReported, salvageBytes}
+use Rattle.embed.proofs.Cases.{read-unread, read-done, write-unread, write-done, tick-unread, tick-done, choose-unread, choose-done, inspect-unread, inspect-done}
+use Rattle.images.proofs.Cases.{place-unread, place-done, readings-unread, readings-done}
+use Rattle.answers.proofs.Only.{Says, packed-says}
+use Rattle.embed.proofs.Only.{read-says, write-says, tick-says, choose-says, inspect-says}
+use Rattle.recorder.proofs.Only.{record-says, salvage-says}
+use Rattle.images.proofs.Only.{export-says, shades-says, place-says, readings-says}
 use Rattle.refusing.specs.Tables.{inCalled, inFilled, inReported, leaves, leavesBuffer, leavesBoth, badState, resetTable, readTable, writeTable, tickTable, inspectTable, chooseTable, placeTable, readingsTable, over, salvageTable}
 
 -- a call's refusals in the table's own words: a number is answered exactly when its row holds and no lower one does, and then the outcome is

@@ -1,0 +1,4 @@
+-- Laws of the exported functions of pictures, plates and photographs.
+pub mod Cases
+pub mod Only
+pub mod Kept

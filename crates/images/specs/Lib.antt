@@ -1,0 +1,2 @@
+-- The exported functions of pictures, plates and photographs.
+pub mod Images

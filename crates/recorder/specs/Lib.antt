@@ -1,0 +1,2 @@
+-- The exported functions of script lines and scripts.
+pub mod Recorder
