@@ -4,3 +4,4 @@ pub mod Only
 pub mod Kept
 pub mod Left
 pub mod Saves
+pub mod Judges

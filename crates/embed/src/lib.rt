@@ -1,6 +1,7 @@
 // What C and Rust call: the controller over numbers and byte slices, with the state record as 121 bytes (layout).
 // Each function answers the refusal's number * 2^32 + the value (answer). A refused call changes no byte it was lent.
 mod clean;
+mod judge;
 mod keep;
 mod record;
 

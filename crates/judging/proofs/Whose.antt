@@ -79,7 +79,7 @@ module _ (plate picture : List ℕ) where
 
   -- ---- all rows
 
-  equal-most : (n : ℕ) → rowsEqual plate picture n ≤ n
+  pub equal-most : (n : ℕ) → rowsEqual plate picture n ≤ n
   unfolding rowsEqual
   equal-most zero = omega arith
   equal-most (suc n) = omega (arith, equal-most n, judged-most n)
