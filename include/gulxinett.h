@@ -61,9 +61,10 @@ extern "C" {
 #define GULXINETT_SHADES_LEN 14336
 #define GULXINETT_ROWS_LEN 112
 
-/* An image row, and the longest script line with its LF, which is a row's. */
+/* An image row, the longest script line with its LF, which is a row's, and the longest answer with its LF. */
 #define GULXINETT_ROW_LEN 128
 #define GULXINETT_LINE_LEN 261
+#define GULXINETT_ANSWER_LEN 11
 
 /* The most bytes of a script that is salvaged. */
 #define GULXINETT_SCRIPT_LEN 32768
@@ -160,6 +161,20 @@ uint64_t gulxinett_record_tick(uint32_t cycles, uint8_t *out, size_t out_len);
 uint64_t gulxinett_record_row(uint8_t row,
                               const uint8_t *bytes, size_t bytes_len,
                               uint8_t *out, size_t out_len);
+
+/* One line of such a script, without its LF, carried out as the program `bus` does it: a reset, a read, a write,
+ * a tick, or a row put into the image. Its answer, in upper-case hexadecimal with its LF, is put at the start
+ * of out; bytes beyond stay. Refused as 1 for bytes that are no record, then as 7 if out_len is smaller than
+ * GULXINETT_ANSWER_LEN; nothing else is refused: a refusal of the line is its answer. A record that can't exist
+ * is a record: read, write and tick answer 01 and a reset mends it. A row looks at the image alone. A malformed
+ * line answers 06 before anything lent is looked at. Value: the answer's length with the LF. */
+uint64_t gulxinett_step(uint8_t *state, size_t state_len,
+                        const uint8_t *rom, size_t rom_len,
+                        uint8_t *ram, size_t ram_len,
+                        uint8_t *store, size_t store_len,
+                        uint8_t *image, size_t image_len,
+                        const uint8_t *line, size_t line_len,
+                        uint8_t *out, size_t out_len);
 
 /* Writes the picture area of RAM bank 0 as a grey image, a Netpbm file of kind P5: 128 by 112 pixels,
  * 14,351 bytes; bytes beyond stay. The RAM is read straight: a half picture is written as it

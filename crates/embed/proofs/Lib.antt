@@ -5,3 +5,4 @@ pub mod Kept
 pub mod Left
 pub mod Saves
 pub mod Judges
+pub mod Steps

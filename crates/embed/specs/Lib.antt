@@ -2,3 +2,4 @@
 pub mod Exports
 pub mod Saves
 pub mod Judges
+pub mod Steps

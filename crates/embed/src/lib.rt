@@ -4,6 +4,7 @@ mod clean;
 mod judge;
 mod keep;
 mod record;
+mod step;
 
 use answers::done_answer;
 use answers::output_answer;
