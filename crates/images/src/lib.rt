@@ -1,4 +1,6 @@
 // What C and Rust call for pictures, plates and photographs. Each function answers as those of `embed` do.
+mod judge;
+
 use answers::done_answer;
 use answers::output_answer;
 use answers::refused;
