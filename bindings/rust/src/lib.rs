@@ -31,7 +31,7 @@ pub use calls::{
     choose, inspect, picture, read, reset, salvage, tick, write, Choice, Element, Salvaged,
 };
 pub use cartridge::{Cartridge, Parts};
-pub use files::write_whole;
+pub use files::{write_whole, Whole};
 pub use refusal::Refusal;
 pub use sizes::*;
 pub use state::{layout_of, State};

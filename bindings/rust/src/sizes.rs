@@ -22,6 +22,8 @@ pub const PLATE_BYTES: usize = 14_351;
 pub const SHADES_BYTES: usize = 14_336;
 /// Bytes of a save file besides its RAM.
 pub const SAVE_BYTES: usize = 16_516;
+/// What a save file begins with.
+pub const SAVE_MAGIC: &[u8; 6] = b"GXSAVE";
 /// Bytes of a row of the image.
 pub const ROW_BYTES: usize = 128;
 /// Bytes of the longest line of a bus script, that of an image row, with its LF.
