@@ -14,6 +14,8 @@ pub const RAM_BANK: usize = 8_192;
 pub const FRAME_BYTES: usize = 16_384;
 /// Bytes of a picture: two bits for each of 128 by 112 pixels.
 pub const PICTURE_BYTES: usize = 3_584;
+/// Rows of a picture.
+pub const PICTURE_ROWS: usize = 112;
 /// Where the picture lies in RAM bank 0.
 pub const PICTURE_OFFSET: usize = 0x100;
 /// Bytes of a plate as a Netpbm P5 file: a header of 15, then one for each of 128 by 112 pixels.
@@ -30,3 +32,5 @@ pub const ROW_BYTES: usize = 128;
 pub const LINE_BYTES: usize = 261;
 /// The most bytes of a script that is salvaged.
 pub const SCRIPT_BYTES: usize = 32_768;
+/// Bytes of the longest answer to a script line, that of a tick, with its LF.
+pub const ANSWER_BYTES: usize = 11;
