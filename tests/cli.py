@@ -1,6 +1,6 @@
 """The command `gulxinett` beside the Python binding: what each of its commands writes, says and ends with, and what is left in the folder.
 
-usage: python3 cli.py GULXINETT; GULXINETT is the command
+usage: python3 cli.py GULXINETT BUS; GULXINETT is the command, BUS the program that plays scripts
 """
 
 import os
@@ -12,13 +12,15 @@ import stat
 import subprocess
 import sys
 import tempfile
+import time
 import unittest
 from pathlib import Path
 
-from gulxinett import FRAME_BYTES, PICTURE_OFFSET, RAM_BANK, REGISTERS, SAVE_BYTES, Cartridge, picture, salvage
+from gulxinett import FRAME_BYTES, PICTURE_OFFSET, RAM_BANK, REGISTERS, Audit, Cartridge, picture, salvage
 
-COMMAND = Path(sys.argv[1]).resolve()
-COMMANDS = ("salvage", "picture", "plate", "place", "photo", "inspect")
+ROOT = Path(__file__).resolve().parents[1]
+COMMAND, BUS = Path(sys.argv[1]).resolve(), Path(sys.argv[2]).resolve()
+COMMANDS = ("play", "audit", "judge", "salvage", "picture", "plate", "place", "photo", "inspect")
 
 # What each refusal says, as the bindings have it.
 REFUSED_RAM = "the RAM length is not allowed"
@@ -147,12 +149,251 @@ class Help(Folder):
             self.wrong("there is no option '-x' here", name, "-x")
         self.wrong("--output needs a value", "plate", "--output")
         self.wrong("--output is given twice", "plate", "-o", "one", "--output=two")
-        for name in ("plate", "photo", "salvage", "inspect"):
+        for name in ("play", "plate", "photo", "salvage", "inspect"):
             self.wrong("one file is read here, and 'two' is one too many", name, "one", "two")
         self.wrong("--save must name the save", "place", "plate.pgm")
         self.wrong("only one of the files can be standard input", "place", "--save", "-")
         self.wrong("--registers must name the registers", "picture", "frame")
         self.wrong("a save or --registers is inspected, not both", "inspect", "--registers", "level=7", "save")
+        self.wrong("only one of the files can be standard input", "audit", "--save", "-")
+        self.wrong("only one of the files can be standard input", "audit", "-", "script", "-")
+        self.wrong("--plate must name the plate", "judge", "frame")
+        self.wrong("at least one frame must be named", "judge", "--plate", "plate.pgm")
+        self.wrong("only one of the files can be standard input", "judge", "--plate", "-", "frame", "-")
+        self.wrong("--mark needs a file of its own", "judge", "--plate", "plate.pgm", "frame", "--mark", "-")
+        for option in ("--exposures=0100", "--others=r1=E4"):
+            self.wrong("are for choices that are tried", "judge", "--plate", "plate.pgm", "--registers", "level=7", option, "frame")
+        for word in ("", "x", "0100-", "0200-0100", "0100,,0200", "10000"):
+            self.wrong("is no exposure", "judge", "--plate", "plate.pgm", "--exposures", word, "frame")
+        self.wrong("--others names registers 0, 1, 4 and 5 alone", "judge", "--plate", "plate.pgm", "--others", "level=3", "frame")
+        self.wrong("is no word of a choice", "judge", "--plate", "plate.pgm", "--others", "r2=00", "frame")
+
+
+class Scripts(Folder):
+    """Scripts played and audited."""
+
+    def job(self):
+        """The recordings of two workers of one job, the first of which is stopped half way."""
+        first = Cartridge()
+        first.record()
+        first.lend(frame(1))
+        first.write(0x4000, 0x10)
+        for n in reversed(range(REGISTERS)):
+            first.write(0xA000 + n, REGISTERS_TAKEN[n])
+        first.tick(20_000)
+        first.write(0xA000, 2)
+        second = Cartridge.restore(first.save())
+        second.record()
+        second.lend(frame(2))
+        second.write(0xA000, 3)
+        second.tick(0xFFFFFFFF)
+        return first.recording(), second.recording(), second
+
+    def test_played(self):
+        first, second, _ = self.job()
+        scripts = [b"", b"\n", b"00", b"00\n", b"\n\n01A000", first + second, (ROOT / "examples/session.script").read_bytes()]
+        scripts += [b"0" * length + b"\n01A000\n" for length in (260, 261, 65535, 65536, 200_000)]
+        for script in scripts:
+            due = subprocess.run([BUS], input=script, capture_output=True, check=True).stdout
+            self.put("script", script)
+            self.gives(due, "play", "script")
+            self.gives(due, "play", stdin=script)
+        self.given.discard("script")
+        (self.folder / "script").unlink()
+
+    def test_played_in_pieces(self):
+        player = subprocess.Popen([COMMAND, "play"], stdin=subprocess.PIPE, stdout=subprocess.PIPE)
+        for piece, due in ((b"01A000\n", b"00FF\n"), (b"0240", b""), (b"0010\n01A0", b"00\n"), (b"00\n", b"0000\n")):
+            player.stdin.write(piece)
+            player.stdin.flush()
+            # answers don't wait for what comes next
+            self.assertEqual(player.stdout.read1(100) if due else b"", due)
+        self.assertEqual((player.communicate(b"xx", timeout=60)[0], player.returncode), (b"06\n", 0))
+
+    def test_audited(self):
+        script, due = ((ROOT / "tests/data" / name).read_bytes() for name in ("audited.script", "audited.events"))
+        self.put("script", script)
+        self.gives(due, "audit", "script")
+        self.gives(due, "audit", stdin=script)
+        self.gives(due, "audit", "-", stdin=script)
+        audit = Audit()
+        self.gives("".join(audit.feed(script * 3) + audit.finish()).encode(), "audit", stdin=script * 3)
+
+    def test_a_job_of_two_workers(self):
+        first, second, cartridge = self.job()
+        audit = Audit()
+        due = "".join(audit.feed(first + second) + audit.finish())
+        self.assertIn("event end serial 1 cycles 45246 ", due)
+        self.assertIn(" verdict whole\n", due)
+        self.assertEqual(cartridge.area(), picture(frame(1), REGISTERS_TAKEN))
+        self.put("second", second)
+        # with its last LF and without
+        for recording in (first, first[:-1]):
+            self.put("first", recording)
+            self.gives(due.encode(), "audit", "first", "second")
+            self.gives(due.encode(), "audit", "-", "second", stdin=recording)
+
+    def test_audited_over_a_battery_save(self):
+        script = b"0200000A\n02400003\n02A00701\n02A00802"
+        for banks in (1, 2, 4, 8, 16):
+            ram = bytes(banks * RAM_BANK)
+            audit = Audit(ram)
+            due = "".join(audit.feed(script) + audit.finish()).encode()
+            self.assertIn(b"event changed bank %d from 0007 to 0008\n" % (3 % banks), due)
+            self.put("save", ram)
+            self.put("script", script)
+            self.gives(due, "audit", "--save", "save", "script")
+            self.gives(due, "audit", "--save=-", "script", stdin=ram)
+        for name, file in (("empty", b""), ("three", bytes(3 * RAM_BANK)), ("own", Cartridge().save())):
+            self.put(name, file)
+            self.fails(1, name, REFUSED_RAM, "audit", "--save", name, "script", "-o", "made")
+
+
+class Judgements(Folder):
+    """Plates of one frame, of two, and of none that is named."""
+
+    WORDS = "set=1,level=5,exposure=0100"
+
+    def setUp(self):
+        super().setUp()
+        self.registers = chosen(light=1, level=5, exposure=0x100)
+        self.lights = [frame(number) for number in (1, 2, 3)]
+        for number, light in enumerate(self.lights, 1):
+            self.put("frame%d" % number, light)
+        self.areas = [picture(light, self.registers) for light in self.lights]
+
+    def judged(self, status, lines, *words, **more):
+        """The command must say these lines and end with a status."""
+        ended, output, said = self.run_it("judge", *words, **more)
+        self.assertEqual((ended, output.decode().splitlines(), said), (status, lines, ""), words)
+        self.nothing_left()
+
+    def mixed(self, tiles=7):
+        """A plate whose first rows of tiles are of the first frame, the others of the second."""
+        return self.areas[0][: 256 * tiles] + self.areas[1][256 * tiles :]
+
+    def test_one_frame(self):
+        self.put("plate.pgm", plate_of(self.areas[1]))
+        lines = ["rows 0 to 111: frame2", "one frame: frame2"]
+        for words in (self.WORDS, self.registers.hex()):
+            self.judged(0, lines, "--plate", "plate.pgm", "--registers", words, "frame1", "frame2", "frame3")
+        self.judged(0, lines, "--plate", "-", "--registers", self.WORDS, "frame2", stdin=plate_of(self.areas[1]))
+        self.judged(0, [line.replace("frame2", "standard input") for line in lines], "--plate", "plate.pgm", "--registers", self.WORDS,
+                    "frame1", "-", stdin=self.lights[1])
+
+    def test_saves(self):
+        for banks in (1, 16):
+            cartridge = ended(2, self.registers, banks)
+            for file in (cartridge.battery(), cartridge.save()):
+                self.put("save", file)
+                self.judged(0, ["rows 0 to 111: frame2", "one frame: frame2"], "--plate", "save", "--registers", self.WORDS, "frame1", "frame2")
+
+    def test_kinds_of_frames(self):
+        self.put("plate.pgm", plate_of(self.areas[0]))
+        for file in (b"P5\n128 128\n255\n" + self.lights[0], photograph(self.lights[0])):
+            self.put("frame", file)
+            self.judged(0, ["rows 0 to 111: frame", "one frame: frame"], "--plate", "plate.pgm", "--registers", self.WORDS, "frame")
+
+    def test_a_plate_of_two_frames(self):
+        for tiles, meet in ((7, 56), (1, 8), (13, 104)):
+            self.put("plate.pgm", plate_of(self.mixed(tiles)))
+            rows = "rows 0 to %d" % (meet - 1), "rows %d to 111" % meet
+            lines = ["%s: frame1" % rows[0], "%s: frame2" % rows[1], "WITHDRAW: %s frame1, %s frame2" % rows]
+            for words in (["frame1", "frame2"], ["frame3", "frame2", "frame1"]):
+                self.judged(1, lines, "--plate", "plate.pgm", "--registers", self.WORDS, *words)
+
+    def test_rows_that_none_gives(self):
+        area = bytearray(self.areas[0])
+        # the first bytes of rows 3, 110 and 111
+        for place in (2 * 3, 256 * 13 + 2 * 6, 256 * 13 + 2 * 7):
+            area[place] ^= 0x80
+        self.put("plate.pgm", plate_of(bytes(area)))
+        none = "none of these frames"
+        lines = ["rows 0 to 2: frame1", "row 3: " + none, "rows 4 to 109: frame1", "rows 110 to 111: " + none]
+        lines.append("WITHDRAW: " + ", ".join(line.replace(":", "", 1) for line in lines))
+        self.judged(1, lines, "--plate", "plate.pgm", "--registers", self.WORDS, "frame1", "frame2")
+        self.judged(1, ["rows 0 to 111: " + none, "WITHDRAW: rows 0 to 111 " + none], "--plate", "plate.pgm", "--registers", self.WORDS, "frame3")
+
+    def test_rows_that_several_give(self):
+        self.put("plate.pgm", plate_of(self.areas[0]))
+        # the same light but for its lower half, so that the first rows are the same: the picture's row 0 is the frame's row 8
+        self.put("other", self.lights[0][: 128 * 64] + self.lights[1][128 * 64 :])
+        status, output, _ = self.run_it("judge", "--plate", "plate.pgm", "--registers", self.WORDS, "other", "frame1")
+        self.assertEqual(status, 0)
+        self.assertRegex(output, rb"\Arows 0 to 111: frame1 \(given too: other rows 0 to 5\d\)\none frame: frame1\n\Z")
+        self.put("copy", self.lights[0])
+        lines = ["rows 0 to 111: frame1 (given too: copy rows 0 to 111)", "in doubt: copy gives every row too", "one frame: frame1"]
+        self.judged(0, lines, "--plate", "plate.pgm", "--registers", self.WORDS, "frame1", "copy")
+
+    def test_registers_that_are_not_known(self):
+        self.put("plate.pgm", plate_of(self.mixed()))
+        fit = "set=1,level=5,dither=on,exposure=0100"
+        lines = ["1 of 1664 choices fit", "fits: %s: more than one frame" % fit, "judged under " + fit, "rows 0 to 55: frame1",
+                 "rows 56 to 111: frame2", "WITHDRAW: rows 0 to 55 frame1, rows 56 to 111 frame2"]
+        self.judged(1, lines, "--plate", "plate.pgm", "frame1", "frame2")
+        lines[0] = "1 of 1088 choices fit"
+        self.judged(1, lines, "--plate", "plate.pgm", "--exposures", "0300,00f1-0100", "frame1", "frame2")
+        self.put("plate.pgm", plate_of(self.areas[2]))
+        lines = ["1 of 1664 choices fit", "fits: %s: one frame: frame3" % fit, "judged under " + fit, "rows 0 to 111: frame3", "one frame: frame3"]
+        self.judged(0, lines, "--plate", "plate.pgm", "frame1", "frame3")
+        # an exposure that is not tried
+        status, output, _ = self.run_it("judge", "--plate", "plate.pgm", "--exposures", "0200", "frame3")
+        output = output.decode().splitlines()
+        self.assertEqual((status, output[0]), (1, "0 of 64 choices fit"))
+        self.assertRegex(output[1], r"\Abest: set=.*,exposure=0200 gives \d+ of 112 rows; under registers that were not tried it may be otherwise\Z")
+        self.assertTrue(output[-1].startswith("WITHDRAW: "))
+
+    def test_registers_that_the_desk_leaves_alone(self):
+        registers = bytearray(self.registers)
+        registers[1], registers[4] = 0xE4, 0x27
+        self.put("plate.pgm", plate_of(picture(self.lights[0], registers)))
+        fit = "set=1,level=5,dither=on,exposure=0100,r1=E4,r4=27"
+        lines = ["1 of 1664 choices fit", "fits: %s: one frame: frame1" % fit, "judged under " + fit, "rows 0 to 111: frame1", "one frame: frame1"]
+        self.judged(0, lines, "--plate", "plate.pgm", "--others", "r4=27,r1=E4", "frame1", "frame2")
+
+    def test_a_plate_that_any_frame_gives(self):
+        self.put("white.pgm", plate_of(bytes(3584)))
+        status, output, _ = self.run_it("judge", "--plate", "white.pgm", "frame1", "frame2")
+        output = output.decode().splitlines()
+        self.assertEqual((status, output[-1], output[-2]), (0, "one frame: frame1", "in doubt: frame2 gives every row too"))
+        self.assertEqual(len([line for line in output if line.startswith("fits: ")]), 11)
+        self.assertRegex(output[11], r"\Afits: \d+ more\Z")
+
+    def test_marked(self):
+        area = bytearray(self.mixed())
+        area[0] ^= 0x80
+        plate = plate_of(bytes(area))
+        self.put("plate.pgm", plate)
+        words = ["--plate", "plate.pgm", "--registers", self.WORDS, "frame1", "frame2"]
+        status, output, said = self.run_it("judge", *words, "--mark", "marked.ppm")
+        self.assertEqual((status, said), (1, ""))
+        self.assertIn(b"\nmarked in marked.ppm: frame1 orange, frame2 sky blue; red: none\nWITHDRAW: row 0 none of these frames, rows 1 to 55 frame1", output)
+        file = (self.folder / "marked.ppm").read_bytes()
+        (self.folder / "marked.ppm").unlink()
+        self.nothing_left()
+        wide = 128 + 4 + 2 * 12
+        header = b"P6\n%d 112\n255\n" % wide
+        self.assertEqual((file[: len(header)], len(file)), (header, len(header) + 3 * wide * 112))
+        dark, orange, blue = bytes([48] * 3), bytes([230, 159, 0]), bytes([86, 180, 233])
+        for y in range(112):
+            row = file[len(header) + 3 * wide * y :][: 3 * wide]
+            self.assertEqual(row[: 3 * 128], b"".join(bytes([grey] * 3) for grey in plate[15 + 128 * y :][:128]))
+            self.assertEqual(row[3 * 128 : 3 * 132], (b"\xff\0\0" if y == 0 else b"\xff\xff\xff") * 4)
+            strips = (dark if y == 0 or y > 55 else orange) * 12 + (blue if y > 55 else dark) * 12
+            self.assertEqual(row[3 * 132 :], strips, y)
+        self.fails(2, "none/marked", "can't be written: No such file or directory", "judge", *words, "--mark", "none/marked")
+
+    def test_refused(self):
+        plate, save = plate_of(self.areas[0]), Cartridge().save()
+        for name, file in (("empty", b""), ("cut.pgm", plate[:-1]), ("grey.pgm", plate[:15] + b"\1" + plate[16:]), ("frame", self.lights[0][1:]), ("cut", save[:-1])):
+            self.put(name, file)
+            self.fails(2, name, REFUSED_FILE, "judge", "--plate", name, "--registers", self.WORDS, "frame1")
+        self.put("plate.pgm", plate)
+        for name in ("empty", "cut.pgm", "frame"):
+            self.fails(2, name, REFUSED_FILE, "judge", "--plate", "plate.pgm", "--registers", self.WORDS, "frame1", name)
+        self.fails(2, "missing", "can't be read: No such file or directory", "judge", "--plate", "missing", "frame1")
+        self.fails(2, "missing", "can't be read: No such file or directory", "judge", "--plate", "plate.pgm", "frame1", "missing")
+        self.wrong(REFUSED_CHOICE, "judge", "--plate", "plate.pgm", "--registers", "level=16", "frame1")
 
 
 class Plates(Folder):
@@ -364,12 +605,14 @@ class Files(Folder):
             ["picture", "--registers", "level=7", "frame"],
             ["photo", "photo.ppm"],
             ["salvage", "script"],
+            ["play", "script"],
+            ["audit", "script"],
         )
 
     def test_unread(self):
         self.given.add("folder")
         (self.folder / "folder").mkdir()
-        for words in (["plate"], ["photo"], ["salvage"], ["inspect"], ["picture", "--registers", "level=7"], ["place", "--save", "save"]):
+        for words in (["play"], ["audit"], ["audit", "script"], ["plate"], ["photo"], ["salvage"], ["inspect"], ["picture", "--registers", "level=7"], ["place", "--save", "save"]):
             self.commands()
             self.fails(1, "missing", "can't be read: No such file or directory", *words, "missing")
             self.fails(1, "folder", "can't be read: Is a directory", *words, "folder")
@@ -444,6 +687,38 @@ class Files(Folder):
         done = subprocess.run([COMMAND, "plate", "save"], cwd=self.folder, stdout=write, stderr=subprocess.PIPE, timeout=60)
         os.close(write)
         self.assertEqual((done.returncode, done.stderr), (1, b""))
+
+    def on_terminal(self, words, pieces):
+        """What a run says on a terminal, standard output being none, while its input comes in pieces with a pause after each."""
+        ours, theirs = pty.openpty()
+        run = subprocess.Popen([COMMAND, *words], stdin=subprocess.PIPE, stdout=subprocess.PIPE, stderr=theirs, cwd=self.folder)
+        os.close(theirs)
+        for piece, pause in pieces:
+            run.stdin.write(piece)
+            run.stdin.flush()
+            time.sleep(pause)
+        output = run.communicate(timeout=60)[0]
+        said = b""
+        try:
+            while more := os.read(ours, 4096):
+                said += more
+        except OSError:
+            # all has been read, and the other end is closed
+            pass
+        os.close(ours)
+        return run.returncode, output, said
+
+    def test_whoever_waits_is_told(self):
+        for words in (["play"], ["audit"]):
+            status, output, said = self.on_terminal(words, ((b"00\n" * 5, 1.6), (b"00\n" * 3, 0.5)))
+            self.assertEqual((status, output), self.run_it(*words, stdin=b"00\n" * 8)[:2])
+            self.assertIn(b"\rgulxinett: 5 lines so far", said)
+            self.assertTrue(said.endswith(b"\r\x1b[K"), said)
+            # not for a short wait, nor where nobody looks
+            self.assertEqual(self.on_terminal(words, ((b"00\n", 0.3),))[2], b"")
+            run = subprocess.Popen([COMMAND, *words], stdin=subprocess.PIPE, stdout=subprocess.PIPE, stderr=subprocess.PIPE)
+            time.sleep(1.3)
+            self.assertEqual(run.communicate(b"00\n", timeout=60)[1], b"")
 
     def test_pictures_are_not_put_on_a_terminal(self):
         ours, theirs = pty.openpty()

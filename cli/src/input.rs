@@ -4,8 +4,11 @@ use crate::failure::Failure;
 use std::ffi::OsStr;
 use std::fmt;
 use std::fs::File;
-use std::io::{self, Read};
+use std::io::{self, IsTerminal, Read};
 use std::path::{Path, PathBuf};
+
+/// How much is read at once.
+const PIECE: usize = 1 << 16;
 
 /// A file, or standard input where there is no path.
 #[derive(Debug)]
@@ -25,6 +28,11 @@ impl Input {
         self.0.is_none()
     }
 
+    /// Whether somebody types it.
+    pub fn is_typed(&self) -> bool {
+        self.is_standard() && io::stdin().is_terminal()
+    }
+
     /// What is read piece by piece.
     pub fn open(&self) -> Result<Box<dyn Read>, Failure> {
         match &self.0 {
@@ -33,6 +41,23 @@ impl Input {
                 Ok(file) => Ok(Box::new(file)),
                 Err(error) => Err(Failure::unread(self, &error)),
             },
+        }
+    }
+
+    /// Hands on what is read, piece by piece, to its end.
+    pub fn pieces(
+        &self,
+        mut source: Box<dyn Read>,
+        mut take: impl FnMut(&[u8]) -> Result<(), Failure>,
+    ) -> Result<(), Failure> {
+        let mut piece = vec![0; PIECE];
+        loop {
+            match source.read(&mut piece) {
+                Ok(0) => return Ok(()),
+                Ok(length) => take(&piece[..length])?,
+                Err(error) if error.kind() == io::ErrorKind::Interrupted => {}
+                Err(error) => return Err(Failure::unread(self, &error)),
+            }
         }
     }
 

@@ -5,12 +5,16 @@
 #![forbid(unsafe_code)]
 
 // The modules from the bottom up, each of which uses only those named before it:
-// failure, words, input, output, registers, frames, saves, commands.
+// failure, input, words, output, progress, lines, registers, frames, saves, judging, marking, commands.
 mod commands;
 mod failure;
 mod frames;
 mod input;
+mod judging;
+mod lines;
+mod marking;
 mod output;
+mod progress;
 mod registers;
 mod saves;
 mod words;
@@ -93,13 +97,13 @@ fn ended(said: Result<u8, Failure>, who: &str) -> ExitCode {
 /// Says a failure on standard error, unless its reader went away.
 fn tell(who: &str, failure: &Failure) {
     if let Failure::Usage(sentence) | Failure::Undone(sentence) = failure {
-        eprintln!("{who}: {sentence}");
+        output::remark(&format!("{who}: {sentence}\n"));
     }
 }
 
 /// Says what was wrong with the words, with status 2.
 fn said_wrongly(who: &str, sentence: &str) -> ExitCode {
-    eprint!("{who}: {sentence}");
+    output::remark(&format!("{who}: {sentence}"));
     ExitCode::from(2)
 }
 

@@ -49,6 +49,11 @@ impl Output {
         Ok(output)
     }
 
+    /// Whether what is written is seen at once.
+    pub fn is_seen(&self) -> bool {
+        matches!(&self.into, Into::Standard(stdout) if stdout.is_terminal())
+    }
+
     /// Writes some bytes and has them on their way.
     pub fn write(&mut self, bytes: &[u8]) -> Result<(), Failure> {
         let written = match &mut self.into {
@@ -100,4 +105,9 @@ fn opened(path: &Path) -> io::Result<Into> {
 pub fn say(text: &str) -> Result<u8, Failure> {
     Output::named(None)?.all(text.as_bytes())?;
     Ok(0)
+}
+
+/// Says a text on standard error; whoever can't be told is no reason to fail.
+pub fn remark(text: &str) {
+    let _ = io::stderr().write_all(text.as_bytes());
 }

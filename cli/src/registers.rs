@@ -22,7 +22,7 @@ const UNNAMED: [u8; 4] = [3, 0, 0, 0];
 /// A choice of the desk, with the registers that it leaves alone.
 #[derive(Clone, Copy, Debug, PartialEq, Eq)]
 pub struct Chosen {
-    pub choice: Choice,
+    choice: Choice,
     others: [u8; 4],
 }
 
@@ -111,6 +111,61 @@ impl fmt::Display for Chosen {
     }
 }
 
+/// The exposures that are tried where none is named: each power of two from 0010 on, and half as much again.
+const USUAL: [u16; 26] = [
+    0x0010, 0x0018, 0x0020, 0x0030, 0x0040, 0x0060, 0x0080, 0x00C0, 0x0100, 0x0180, 0x0200, 0x0300,
+    0x0400, 0x0600, 0x0800, 0x0C00, 0x1000, 0x1800, 0x2000, 0x3000, 0x4000, 0x6000, 0x8000, 0xC000,
+    0xE000, 0xFFFF,
+];
+
+/// The desk's 64 choices, dithered ones first and the default level before others, under each exposure of a list, or the
+/// usual ones; others are the registers that the desk leaves alone, if they are named.
+pub fn tried(exposures: Option<&str>, others: Option<&str>) -> Result<Vec<Chosen>, Failure> {
+    let exposures = exposures.map_or_else(|| Ok(USUAL.to_vec()), listed)?;
+    let base = others.map_or(Ok(Chosen::PLAINEST), Chosen::parse)?;
+    if base.choice != Chosen::PLAINEST.choice {
+        return Err(Failure::usage(
+            "--others names registers 0, 1, 4 and 5 alone",
+        ));
+    }
+    let mut levels: Vec<u8> = (0..16).collect();
+    levels.sort_by_key(|level| level.abs_diff(7));
+    let mut tried = Vec::new();
+    for dithering in [true, false] {
+        for &level in &levels {
+            for light in [0, 1] {
+                tried.extend(exposures.iter().map(|&exposure| Chosen {
+                    choice: Choice {
+                        light,
+                        level,
+                        dithering,
+                        exposure: Some(exposure),
+                    },
+                    ..base
+                }));
+            }
+        }
+    }
+    Ok(tried)
+}
+
+/// The exposures of a list, each a number or from one to another.
+fn listed(text: &str) -> Result<Vec<u16>, Failure> {
+    let mut exposures = Vec::new();
+    for word in text.split(',') {
+        let (first, last) = word.split_once('-').unwrap_or((word, word));
+        match (exposure(first), exposure(last)) {
+            (Some(first), Some(last)) if first <= last => exposures.extend(first..=last),
+            _ => {
+                return Err(Failure::usage(format!(
+                    "'{word}' is no exposure, in '{text}'"
+                )))
+            }
+        }
+    }
+    Ok(exposures)
+}
+
 /// The 54 registers that a text names, by their digits or as a choice.
 pub fn registers(text: &str) -> Result<[u8; REGISTERS], Failure> {
     if text.contains('=') {
@@ -148,7 +203,7 @@ fn on_or_off(text: &str) -> Option<bool> {
 }
 
 /// A number of up to four hexadecimal digits.
-pub fn exposure(text: &str) -> Option<u16> {
+fn exposure(text: &str) -> Option<u16> {
     hexadecimal(text, 4).map(|number| number as u16)
 }
 

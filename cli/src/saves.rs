@@ -54,6 +54,24 @@ impl Save {
     }
 }
 
+/// The picture area of a plate's file, or of a save.
+pub fn area(input: &Input) -> Result<[u8; PICTURE_BYTES], Failure> {
+    // one byte more shows that a file is larger
+    let file = input.at_most(LARGEST as u64 + 1)?;
+    let mut cartridge = Cartridge::default();
+    // no save has the length of a plate
+    if let Err(refusal) = cartridge.place(&file) {
+        let refused = if file.starts_with(b"P5") {
+            Failure::refused(input, refusal, PLATES)
+        } else {
+            Failure::refused(input, Refusal::File, &format!("{PLATES}; {KINDS}"))
+        };
+        cartridge = Save::from_bytes(file).map_err(|_| refused)?.cartridge;
+    }
+    let area = cartridge.area().try_into();
+    Ok(area.expect("the area has its size"))
+}
+
 /// The plate of a picture area.
 pub fn plate_of(area: &[u8; PICTURE_BYTES]) -> Vec<u8> {
     let mut ram = vec![0; RAM_BANK];

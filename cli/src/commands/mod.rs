@@ -1,10 +1,13 @@
 //! The commands, each in a module of its name.
 
+mod audit;
 mod inspect;
+mod judge;
 mod photo;
 mod picture;
 mod place;
 mod plate;
+mod play;
 mod salvage;
 
 use crate::failure::Failure;
@@ -26,7 +29,10 @@ pub struct Command {
 }
 
 /// Every command, in the order in which they are told.
-pub const COMMANDS: [Command; 6] = [
+pub const COMMANDS: [Command; 9] = [
+    play::COMMAND,
+    audit::COMMAND,
+    judge::COMMAND,
     salvage::COMMAND,
     picture::COMMAND,
     plate::COMMAND,

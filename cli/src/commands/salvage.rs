@@ -2,7 +2,7 @@
 
 use super::Command;
 use crate::failure::Failure;
-use crate::output::Output;
+use crate::output::{remark, Output};
 use crate::words::Words;
 use gulxinett::{salvage, SCRIPT_BYTES};
 
@@ -45,6 +45,8 @@ fn run(words: Words) -> Result<u8, Failure> {
         let lines = salvaged.report.iter().filter(|&&line| line == fate);
         lines.count()
     });
-    eprintln!("gulxinett salvage: {kept} lines kept, {malformed} malformed, {repeated} repeated");
+    remark(&format!(
+        "gulxinett salvage: {kept} lines kept, {malformed} malformed, {repeated} repeated\n"
+    ));
     Ok(0)
 }
