@@ -1,0 +1,4 @@
+-- Theorems on audits.
+pub mod Sessions
+pub mod Writes
+pub mod Told

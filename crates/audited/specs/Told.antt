@@ -1,0 +1,70 @@
+-- What the events of a recording tell. Assumes nothing.
+use mathlib.Core.Path.{_≡_}
+use mathlib.Core.Bool.{true}
+use mathlib.Core.List.{List, [], _∷_, _++_}
+use Prim.Native.Nat.{ℕ, _%_}
+use lib.ListN.{set}
+use Rattle.crc.specs.Crc.{crcOf}
+use Rattle.timing.specs.Timing.{totalOf}
+use Rattle.lighting.specs.Taken.{settingOf}
+use Rattle.lighting.specs.Light.{litOf}
+use Rattle.tiles.specs.Tiles.{areaOf}
+use Rattle.plates.specs.Grey.{plateOf, plateAfresh}
+use Rattle.history.specs.History.{counted}
+use Rattle.history.specs.Seen.{inArea, landsSeen, heldThrough, AreaLeft, afresh}
+use Rattle.lines.specs.declared.line.Frame.the-variants.{Write}
+use Rattle.lines.specs.Line.{frameOf}
+use Rattle.session.specs.Session.{World}
+use Rattle.audit.specs.Event.{start, found, callOf}
+use Rattle.audited.specs.Sessions.{callsOf, leftBy, nextEvent}
+
+-- lines split at one whose event is a start with this serial, and since which a capture is held after each line
+pub record Begun (rom : List ℕ) (w : World) (lines : List (List ℕ)) (serial : ℕ) : Type 0 where
+  pub before : List (List ℕ)
+  pub line : List ℕ
+  pub since : List (List ℕ)
+  pub checksum : ℕ
+  pub row : ℕ
+  pub registers : List ℕ
+  pub whole : lines ≡ before ++ (line ∷ since)
+  pub begins : nextEvent rom w before line ≡ start serial checksum row registers
+  pub through : heldThrough (found (leftBy rom w (before ++ (line ∷ [])) .world)) (callsOf rom (leftBy rom w (before ++ (line ∷ [])) .world) since) ≡ true
+
+-- the session before that line, and after it
+abbrev pub sessionBefore : {rom : List ℕ} {w : World} {lines : List (List ℕ)} {serial : ℕ} → Begun rom w lines serial → World
+sessionBefore {rom} {w} s = leftBy rom w (s .before) .world
+
+abbrev pub sessionAfter : {rom : List ℕ} {w : World} {lines : List (List ℕ)} {serial : ℕ} → Begun rom w lines serial → World
+sessionAfter {rom} {w} s = leftBy rom w (s .before ++ (s .line ∷ [])) .world
+
+-- the counts that the ticks returned from that line on, with those of one line more, added up
+abbrev pub countsSince : {rom : List ℕ} {w : World} {lines : List (List ℕ)} {serial : ℕ} → Begun rom w lines serial → List ℕ → ℕ
+countsSince {rom} s line = counted (found (sessionBefore s)) (callsOf rom (sessionBefore s) (s .line ∷ (s .since ++ (line ∷ []))))
+
+-- two such starts of the same lines are one
+pub record OneBegun {rom : List ℕ} {w : World} {lines : List (List ℕ)} {serial : ℕ} (s other : Begun rom w lines serial) : Type 0 where
+  pub before : other .before ≡ s .before
+  pub line : other .line ≡ s .line
+  pub since : other .since ≡ s .since
+
+-- what an event with this serial and these cycles tells: it has such a start, and one; the image whose checksum the start said is the one lent
+-- then; the registers that it said are those in force then, with the new register 0; and the cycles are the counts since, added up
+pub record Started (rom : List ℕ) (w : World) (lines : List (List ℕ)) (line : List ℕ) (serial cycles : ℕ) : Type 0 where
+  pub begun : Begun rom w lines serial
+  pub one : (other : Begun rom w lines serial) → OneBegun begun other
+  pub address : ℕ
+  pub byte : ℕ
+  pub write : frameOf (begun .line) ≡ Write address byte
+  pub checksum : begun .checksum ≡ crcOf (sessionBefore begun .image)
+  pub registers : begun .registers ≡ set (sessionBefore begun .state .registers) 0 (byte % 8)
+  pub counts : cycles ≡ countsSince begun line
+
+-- what `whole` tells: no line since the start landed in the picture area; the cycles are the total of the start's registers; and after the line
+-- the area is the picture afresh, and the checksum is of its plate, from the image lent at the start and the registers that the start said
+pub record WholeTold (rom : List ℕ) (w : World) (lines : List (List ℕ)) (line : List ℕ) (serial cycles plate : ℕ) : Type 0 where
+  pub from : Started rom w lines line serial cycles
+  pub alone : AreaLeft (found (sessionAfter (from .begun))) (callsOf rom (sessionAfter (from .begun)) (from .begun .since))
+  pub total : cycles ≡ totalOf (from .begun .registers)
+  pub picture : areaOf (leftBy rom w (lines ++ (line ∷ [])) .world .ram) ≡ afresh (sessionBefore (from .begun) .image) (from .begun .registers)
+  pub of-area : plate ≡ crcOf (plateOf (leftBy rom w (lines ++ (line ∷ [])) .world .ram))
+  pub of-picture : plate ≡ crcOf (plateAfresh (litOf (sessionBefore (from .begun) .image) (settingOf (from .begun .registers))) (from .begun .registers))
