@@ -2,7 +2,7 @@
 use mathlib.Core.Path.{_≡_, refl, sym, ap, subst, _∙_}
 use mathlib.Core.Bool.{Bool, true, false, not, _&&_}
 use mathlib.Core.List.{List, [], _∷_, _++_, append-assoc, append-inj, head-eq-of-cons-eq, tail-eq-of-cons-eq}
-use Prim.Native.Nat.{ℕ, _+_, _%_}
+use Prim.Native.Nat.{ℕ, suc, _+_, _%_}
 use native.Mathlib.Nat.{add-zero}
 use native.Mathlib.Omega.{arith}
 use lib.Dec.{eqb}
@@ -17,23 +17,23 @@ use Rattle.lighting.specs.Taken.{settingOf}
 use Rattle.lighting.specs.Light.{litOf}
 use Rattle.tiles.specs.Tiles.{areaOf, Bytes}
 use Rattle.plates.specs.Grey.{plateOf, plateAfresh}
-use Rattle.history.specs.History.{Call, write, fresh, leaves, answers, countIn, after, counted}
+use Rattle.history.specs.History.{Call, reset, read, write, tick, inspect, choose, place, fresh, leaves, answers, countIn, after, counted}
 use Rattle.history.specs.History.{World as Found}
-use Rattle.history.specs.Seen.{isReset, inArea, startSeen, endSeen, heldThrough, AreaLeft, bytesIn, Start, startOf, worldBefore, worldAfter, registersOf, afresh, countsOf}
-use Rattle.history.proofs.Track.{Track, next, told}
+use Rattle.history.specs.Seen.{isReset, inArea, startSeen, endSeen, heldThrough, landedSeen, AreaLeft, byteIn, bytesIn, Start, startOf, worldBefore, worldAfter, registersOf, afresh, countsOf}
+use Rattle.history.proofs.Track.{Track, starts, next, told}
 use Rattle.history.proofs.Follows.{Moment, at-reset, moment-next, moment-after}
 use Rattle.history.proofs.Goes.{counted-append, after-append}
 use Rattle.history.proofs.Counts.{counts-next}
-use Rattle.history.proofs.Observed.{own-seen, begun-seen, only-start, ended-cycles, ended-picture, ended-plate}
+use Rattle.history.proofs.Observed.{starts-seen, own-seen, begun-seen, only-start, ended-cycles, ended-picture, ended-plate}
 use Rattle.lines.specs.declared.line.Frame.the-variants.{Write}
 use Rattle.lines.specs.Line.{frameOf}
 use Rattle.session.specs.Session.{World, stepOf}
 use Rattle.audit.specs.Book.{noted, newBook, writes, first, last, row}
 use Rattle.audit.specs.Event.{Event, none, start, stop, resume, dropped, landed, whole, touched, found, callOf, stopSeen, resumeSeen, dropSeen, placeOf, writeSeen, cyclesOf, endOf, seenOf}
-use Rattle.audit.specs.Line.{auditAll}
+use Rattle.audit.specs.Line.{auditOf, auditAll}
 use Rattle.audited.specs.Sessions.{callsOf, atReset, leftBy, nextEvent}
 use Rattle.audited.specs.Told.{Begun, sessionBefore, sessionAfter, countsSince, OneBegun, Started, WholeTold}
-use Rattle.audited.proofs.Sessions.{line-found, audit-found, world-more, calls-append, calls-more, Cut, cut, write-is, lines-bytes}
+use Rattle.audited.proofs.Sessions.{line-found, audit-found, world-append, world-more, book-append, calls-append, calls-more, Cut, cut, write-is, lines-bytes}
 use Rattle.audited.proofs.Writes.{long-all, no-reset, none-landed}
 
 -- ---- the serial stays while a capture is held
@@ -52,6 +52,182 @@ serial-stays (k ∷ cs) t w m h =
     first-of x [] g = g
     first-of x (c ∷ ds) g = both-left (x .state .held) (heldThrough (leaves x c) ds) g
 
+-- ---- a start that is seen, in a history
+
+-- a start is a write
+start-write : (ram store : List ℕ) (cs : List Call) (k : Call) → startSeen (after (fresh ram store) cs) k ≡ true
+    → (image : List ℕ) × (a : ℕ) × (v : ℕ) × (k ≡ write image a v)
+unfolding starts
+start-write ram store cs k h = go k (starts-seen ram store cs k ∙ h)
+  where
+    go : (j : Call) → starts (told ram store cs) j ≡ true → (image : List ℕ) × (a : ℕ) × (v : ℕ) × (j ≡ write image a v)
+    go reset g = not-both g refl
+    go (read rom a) g = not-both g refl
+    go (write image a v) g = (image, a, v, refl)
+    go (tick n) g = not-both g refl
+    go inspect g = not-both g refl
+    go (choose light level plain exposure) g = not-both g refl
+    go (place file) g = not-both g refl
+
+module _ {ram store : List ℕ} {calls : List Call} (s : Start ram store calls) where
+  -- the session since it is held
+  now-same : after (fresh ram store) calls ≡ after (worldAfter s) (s .since)
+  unfolding after
+  now-same = ap (after (fresh ram store)) (s .whole) ∙ after-append (s .before) (startOf s ∷ s .since) (fresh ram store)
+
+  -- the serial is the start's
+  same-serial : after (fresh ram store) calls .state .started ≡ worldAfter s .state .started
+  same-serial =
+      ap (λ (w : Found). w .state .started) now-same
+      ∙ serial-stays (s .since) _ (worldAfter s) (moment-next _ _ (moment-after (s .before) _ _ (at-reset ram store)) (startOf s)) (s .through)
+
+  -- the registers taken at it
+  taken-then : worldAfter s .state .taken ≡ registersOf s
+  unfolding startSeen heldThrough after
+  taken-then =
+      let first : Start ram store (s .before ++ (startOf s ∷ [])) =
+      record {
+        before = s .before;
+        image = s .image;
+        address = s .address;
+        byte = s .byte;
+        since = [];
+        whole = refl;
+        begins = s .begins;
+        through = both-right (not (worldBefore s .state .held)) (worldAfter s .state .held) (s .begins);
+      } in
+      sym (ap (λ (w : Found). w .state .taken) (after-append (s .before) (startOf s ∷ []) (fresh ram store))) ∙ own-seen first .taken
+
+  -- the cycles with those of one call more
+  same-cycles : (k : Call) → cyclesOf (after (fresh ram store) calls) k ≡ countsOf s k
+  same-cycles k =
+      let w = after (worldBefore s) (startOf s ∷ s .since) in
+      let e : after (fresh ram store) calls ≡ w = ap (after (fresh ram store)) (s .whole) ∙ after-append (s .before) (startOf s ∷ s .since) (fresh ram store) in
+      let one : counted w (k ∷ []) ≡ countIn (answers w k) = unfold counted in add-zero (countIn (answers w k)) in
+      (λ i. own-seen s .elapsed i + countIn (answers (e i) k))
+      ∙ ap (λ (n : ℕ). counted (worldBefore s) (startOf s ∷ s .since) + n) (sym one)
+      ∙ sym (counted-append (startOf s ∷ s .since) (k ∷ []) (worldBefore s))
+
+-- ---- what is seen of a call
+
+seen-start : (book image : List ℕ) (w : Found) (k : Call) → startSeen w k ≡ true
+    → seenOf book image w k ≡ start (leaves w k .state .started) (crcOf image) (noted book row) (leaves w k .state .taken)
+unfolding seenOf
+seen-start book image w k h = rw h
+
+-- kinds of events, and the numbers of one
+kindOf : Event → ℕ
+kindOf none = 0
+kindOf (start s i r g) = 1
+kindOf (stop s c) = 2
+kindOf (resume s c) = 3
+kindOf (dropped s c) = 4
+kindOf (landed s a v) = 5
+kindOf (whole s c p) = 6
+kindOf (touched s c p n f t) = 7
+
+record Numbers : Type 0 where
+  pub serial : ℕ
+  pub cycles : ℕ
+  pub plate : ℕ
+  pub writes : ℕ
+  pub first : ℕ
+  pub last : ℕ
+
+abbrev numbers : ℕ → ℕ → ℕ → ℕ → ℕ → ℕ → Numbers
+numbers s c p n f t = record { serial = s; cycles = c; plate = p; writes = n; first = f; last = t }
+
+numbersOf : Event → Numbers
+numbersOf none = numbers 0 0 0 0 0 0
+numbersOf (start s i r g) = numbers s 0 0 0 0 0
+numbersOf (stop s c) = numbers s c 0 0 0 0
+numbersOf (resume s c) = numbers s c 0 0 0 0
+numbersOf (dropped s c) = numbers s c 0 0 0 0
+numbersOf (landed s a v) = numbers s 0 0 0 0 0
+numbersOf (whole s c p) = numbers s c p 0 0 0
+numbersOf (touched s c p n f t) = numbers s c p n f t
+
+-- what is seen has what each case has
+seen-cases : (book image : List ℕ) (w : Found) (k : Call) (P : Event → Type 0)
+    → (startSeen w k ≡ true → P (start (leaves w k .state .started) (crcOf image) (noted book row) (leaves w k .state .taken)))
+    → (endSeen w k ≡ true → P (endOf book (w .state .started) (cyclesOf w k) (crcOf (plateOf (leaves w k .ram)))))
+    → (dropSeen w k ≡ true → P (dropped (w .state .started) (cyclesOf w k)))
+    → (writeSeen w k ≡ true → P (landed (w .state .started) (placeOf w k) (byteIn k (placeOf w k))))
+    → (stopSeen w k ≡ true → P (stop (w .state .started) (cyclesOf w k)))
+    → (resumeSeen w k ≡ true → P (resume (w .state .started) (cyclesOf w k)))
+    → P none → P (seenOf book image w k)
+unfolding seenOf
+seen-cases book image w k P a b c d e f n =
+    pick-ind P (startSeen w k) a
+    (λ _.
+    pick-ind P (endSeen w k) b
+    (λ _. pick-ind P (dropSeen w k) c (λ _. pick-ind P (writeSeen w k) d (λ _. pick-ind P (stopSeen w k) e (λ _. pick-ind P (resumeSeen w k) f (λ _. n))))))
+
+module _ (book image : List ℕ) (w : Found) (k : Call) where
+  -- a start
+  start-told : (s i r : ℕ) (g : List ℕ) → seenOf book image w k ≡ start s i r g → startSeen w k ≡ true
+  unfolding kindOf endOf
+  start-told s i r g =
+      seen-cases book image w k (λ (x : Event). x ≡ start s i r g → startSeen w k ≡ true)
+      (λ h _. h)
+      (λ _.
+      pick-ind (λ (x : Event). x ≡ start s i r g → startSeen w k ≡ true) (eqb (noted book writes) 0)
+      (λ _ e. absurd (omega (arith, ap kindOf e)))
+      (λ _ e. absurd (omega (arith, ap kindOf e))))
+      (λ _ e. absurd (omega (arith, ap kindOf e)))
+      (λ _ e. absurd (omega (arith, ap kindOf e)))
+      (λ _ e. absurd (omega (arith, ap kindOf e)))
+      (λ _ e. absurd (omega (arith, ap kindOf e)))
+      (λ e. absurd (omega (arith, ap kindOf e)))
+
+  -- an end that is whole
+  pub record IsWhole (s c p : ℕ) : Type 0 where
+    pub over : endSeen w k ≡ true
+    pub none : noted book writes ≡ 0
+    pub serial : w .state .started ≡ s
+    pub cycles : cyclesOf w k ≡ c
+    pub plate : crcOf (plateOf (leaves w k .ram)) ≡ p
+
+  is-whole : (s c p : ℕ) → seenOf book image w k ≡ whole s c p → IsWhole s c p
+  unfolding kindOf numbersOf endOf
+  is-whole s c p =
+      seen-cases book image w k (λ (x : Event). x ≡ whole s c p → IsWhole s c p)
+      (λ _ e. absurd (omega (arith, ap kindOf e)))
+      (λ h.
+      pick-ind (λ (x : Event). x ≡ whole s c p → IsWhole s c p) (eqb (noted book writes) 0)
+      (λ z e.
+      let n = ap numbersOf e in
+      record {
+        over = h;
+        none = eqb-true (noted book writes) 0 z;
+        serial = ap (λ (x : Numbers). x .serial) n;
+        cycles = ap (λ (x : Numbers). x .cycles) n;
+        plate = ap (λ (x : Numbers). x .plate) n;
+      })
+      (λ _ e. absurd (omega (arith, ap kindOf e))))
+      (λ _ e. absurd (omega (arith, ap kindOf e)))
+      (λ _ e. absurd (omega (arith, ap kindOf e)))
+      (λ _ e. absurd (omega (arith, ap kindOf e)))
+      (λ _ e. absurd (omega (arith, ap kindOf e)))
+      (λ e. absurd (omega (arith, ap kindOf e)))
+
+-- ---- lists that split in one way
+
+split-same : (xs ys : List (List ℕ)) (a b : List ℕ) (us vs : List (List ℕ)) → length xs ≡ length ys → xs ++ (a ∷ us) ≡ ys ++ (b ∷ vs)
+    → (xs ≡ ys) × (a ≡ b) × (us ≡ vs)
+split-same [] [] a b us vs l e = (refl, head-eq-of-cons-eq e, tail-eq-of-cons-eq e)
+split-same [] (y ∷ ys) a b us vs l e = absurd (omega arith)
+split-same (x ∷ xs) [] a b us vs l e = absurd (omega arith)
+split-same (x ∷ xs) (y ∷ ys) a b us vs l e =
+    let f : x ≡ y = head-eq-of-cons-eq e in
+    let r = split-same xs ys a b us vs (omega arith) (tail-eq-of-cons-eq e) in
+    (λ i. f i ∷ r .0 i, r .1, r .2)
+
+calls-length : (rom : List ℕ) (xs : List (List ℕ)) (w : World) → length (callsOf rom w xs) ≡ length xs
+unfolding callsOf
+calls-length rom [] w = refl
+calls-length rom (line ∷ xs) w = ap suc (calls-length rom xs (stepOf rom w line .world))
+
 -- ---- a session from reset
 
 module _ (rom ram store image : List ℕ) where
@@ -64,6 +240,59 @@ module _ (rom ram store image : List ℕ) where
   module _ (lines : List (List ℕ)) where
     abbrev cs : List Call
     cs = callsOf rom w₀ lines
+
+    -- a start's line is a start of the history
+    module _ {serial : ℕ} (s : Begun rom w₀ lines serial) where
+      abbrev wb : World
+      wb = leftBy rom w₀ (s .before) .world
+
+      abbrev kb : Call
+      kb = callOf rom (wb .image) (frameOf (s .line))
+
+      begins-here : startSeen (after (fresh ram store) (callsOf rom w₀ (s .before))) kb ≡ true
+      begins-here =
+          ap (λ (x : Found). startSeen x kb) (sym (found-by (s .before)))
+          ∙ start-told (leftBy rom w₀ (s .before) .book) (wb .image) (found wb) kb serial (s .checksum) (s .row) (s .registers) (s .begins)
+
+      since-begun : found (sessionAfter s) ≡ leaves (after (fresh ram store) (callsOf rom w₀ (s .before))) kb
+      since-begun =
+          ap found (world-more rom w₀ newBook (s .before) (s .line))
+          ∙ line-found rom wb (s .line)
+          ∙ ap (λ (x : Found). leaves x kb) (found-by (s .before))
+
+      calls-split : cs ≡ callsOf rom w₀ (s .before) ++ (kb ∷ callsOf rom (sessionAfter s) (s .since))
+      unfolding callsOf
+      calls-split =
+          ap (callsOf rom w₀) (s .whole)
+          ∙ calls-append rom (s .before) w₀ newBook (s .line ∷ s .since)
+          ∙ ap (λ (w : World). callsOf rom w₀ (s .before) ++ (kb ∷ callsOf rom w (s .since))) (sym (world-more rom w₀ newBook (s .before) (s .line)))
+
+      to-start : Start ram store cs
+      to-start =
+          let is = start-write ram store (callsOf rom w₀ (s .before)) kb begins-here in
+          record {
+            before = callsOf rom w₀ (s .before);
+            image = is .0;
+            address = is .1;
+            byte = is .2;
+            since = callsOf rom (sessionAfter s) (s .since);
+            whole = calls-split ∙ ap (λ (j : Call). callsOf rom w₀ (s .before) ++ (j ∷ callsOf rom (sessionAfter s) (s .since))) (is .3);
+            begins = ap (startSeen (after (fresh ram store) (callsOf rom w₀ (s .before)))) (sym (is .3)) ∙ begins-here;
+            through =
+                ap (λ (j : Call). heldThrough (leaves (after (fresh ram store) (callsOf rom w₀ (s .before))) j) (callsOf rom (sessionAfter s) (s .since))) (sym (is .3))
+                ∙ ap (λ (x : Found). heldThrough x (callsOf rom (sessionAfter s) (s .since))) (sym since-begun)
+                ∙ s .through;
+          }
+
+    -- two are one
+    pub one-begun : {serial : ℕ} (s other : Begun rom w₀ lines serial) → OneBegun s other
+    unfolding to-start
+    one-begun s other =
+        let o : callsOf rom w₀ (other .before) ≡ callsOf rom w₀ (s .before) = only-start (to-start s) (to-start other) .before in
+        let l : length (other .before) ≡ length (s .before) =
+        sym (calls-length rom (other .before) w₀) ∙ ap length o ∙ calls-length rom (s .before) w₀ in
+        let r = split-same (other .before) (s .before) (other .line) (s .line) (other .since) (s .since) l (sym (other .whole) ∙ s .whole) in
+        record { before = r .0; line = r .1; since = r .2 }
 
     module _ (s : Start ram store cs) where
       abbrev c : Cut rom w₀ newBook lines (s .before) (startOf s) (s .since)
@@ -83,3 +312,151 @@ module _ (rom ram store image : List ℕ) where
 
       since-same : callsOf rom (leftBy rom w₀ (c .before ++ (c .line ∷ [])) .world) (c .since) ≡ s .since
       since-same = ap (λ (w : World). callsOf rom w (c .since)) (world-more rom w₀ newBook (c .before) (c .line)) ∙ c .rest
+
+      -- the start's line
+      the-begun : Begun rom w₀ lines (leftBy rom w₀ lines .world .state .started)
+      the-begun =
+          let w = leftBy rom w₀ (c .before) .world in
+          let b = leftBy rom w₀ (c .before) .book in
+          let k = callOf rom (w .image) (frameOf (c .line)) in
+          let then : leaves (found w) k ≡ worldAfter s = (λ i. leaves (before-same i) (c .here i)) in
+          let same : leaves (found w) k .state .started ≡ leftBy rom w₀ lines .world .state .started =
+          ap (λ (x : Found). x .state .started) then ∙ sym (same-serial s) ∙ sym (ap (λ (x : Found). x .state .started) (found-by lines)) in
+          record {
+            before = c .before;
+            line = c .line;
+            since = c .since;
+            checksum = crcOf (w .image);
+            row = noted b row;
+            registers = leaves (found w) k .state .taken;
+            whole = c .whole;
+            begins =
+                seen-start b (w .image) (found w) k ((λ i. startSeen (before-same i) (c .here i)) ∙ s .begins)
+                ∙ ap (λ (n : ℕ). start n (crcOf (w .image)) (noted b row) (leaves (found w) k .state .taken)) same;
+            through = (λ i. heldThrough (after-same i) (since-same i)) ∙ s .through;
+          }
+
+      registers-then : the-begun .registers ≡ registersOf s
+      unfolding the-begun
+      registers-then = ap (λ (x : Found). x .state .taken) (λ i. leaves (before-same i) (c .here i)) ∙ taken-then s
+
+      -- one line more
+      module _ (line : List ℕ) where
+        abbrev k : Call
+        k = callOf rom (leftBy rom w₀ lines .world .image) (frameOf line)
+
+        -- the session that the lines since the start leave
+        then-same : auditAll rom (stepOf rom (leftBy rom w₀ (c .before) .world) (c .line) .world) (auditOf rom (leftBy rom w₀ (c .before) .world) (leftBy rom w₀ (c .before) .book) (c .line) .book) (c .since) .world
+            ≡ leftBy rom w₀ lines .world
+        unfolding auditAll auditOf
+        then-same = sym (ap (λ (ls : List (List ℕ)). leftBy rom w₀ ls .world) (c .whole) ∙ world-append rom (c .before) w₀ newBook (c .line ∷ c .since))
+
+        same-counts : countsSince the-begun line ≡ countsOf s k
+        unfolding the-begun callsOf
+        same-counts =
+            let v = stepOf rom (leftBy rom w₀ (c .before) .world) (c .line) .world in
+            let b = auditOf rom (leftBy rom w₀ (c .before) .world) (leftBy rom w₀ (c .before) .book) (c .line) .book in
+            let x : callsOf rom v (c .since ++ (line ∷ [])) ≡ s .since ++ (k ∷ []) =
+            calls-more rom v b (c .since) line ∙ (λ i. c .rest i ++ (callOf rom (then-same i .image) (frameOf line) ∷ [])) in
+            (λ i. counted (before-same i) (c .here i ∷ x i))
+
+        cycles-then : cyclesOf (found (leftBy rom w₀ lines .world)) k ≡ countsSince the-begun line
+        cycles-then = ap (λ (x : Found). cyclesOf x k) (found-by lines) ∙ same-cycles s k ∙ sym same-counts
+
+        -- what an event with the serial and the cycles so far tells
+        the-started : Started rom w₀ lines line (leftBy rom w₀ lines .world .state .started) (cyclesOf (found (leftBy rom w₀ lines .world)) k)
+        unfolding the-begun
+        the-started = record {
+          begun = the-begun;
+          one = one-begun the-begun;
+          address = s .address;
+          byte = s .byte;
+          write = is-write .0;
+          checksum = refl;
+          registers = registers-then ∙ ap (λ (x : Found). set (x .state .registers) 0 (s .byte % 8)) (sym before-same);
+          counts = cycles-then;
+        }
+
+        -- the line after which it ended
+        module _ (h : endSeen (found (leftBy rom w₀ lines .world)) k ≡ true) where
+          over-then : endSeen (after (fresh ram store) cs) k ≡ true
+          over-then = ap (λ (x : Found). endSeen x k) (sym (found-by lines)) ∙ h
+
+          all-calls : callsOf rom w₀ (lines ++ (line ∷ [])) ≡ cs ++ (k ∷ [])
+          all-calls = calls-more rom w₀ newBook lines line
+
+          ram-then : leftBy rom w₀ (lines ++ (line ∷ [])) .world .ram ≡ after (fresh ram store) (cs ++ (k ∷ [])) .ram
+          ram-then = ap (λ (x : Found). x .ram) (found-by (lines ++ (line ∷ [])) ∙ ap (after (fresh ram store)) all-calls)
+
+          ram-now : leaves (found (leftBy rom w₀ lines .world)) k .ram ≡ leftBy rom w₀ (lines ++ (line ∷ [])) .world .ram
+          ram-now = sym (ap (λ (w : World). w .ram) (world-more rom w₀ newBook lines line) ∙ ap (λ (x : Found). x .ram) (line-found rom (leftBy rom w₀ lines .world) line))
+
+          total-then : cyclesOf (found (leftBy rom w₀ lines .world)) k ≡ totalOf (the-begun .registers)
+          total-then = cycles-then ∙ same-counts ∙ ended-cycles s k over-then ∙ ap totalOf (sym registers-then)
+
+          bytes-then : bytesIn (cs ++ (k ∷ [])) ≡ true
+          bytes-then = ap bytesIn (sym all-calls) ∙ lines-bytes rom (lines ++ (line ∷ [])) w₀
+
+          module _ (bytes : Bytes ram) (z : noted (leftBy rom w₀ lines .book) writes ≡ 0) where
+            book-then : auditAll rom (sessionAfter the-begun) (leftBy rom w₀ (c .before ++ (c .line ∷ [])) .book) (c .since) .book ≡ leftBy rom w₀ lines .book
+            unfolding the-begun
+            book-then =
+                sym
+                (ap (λ (ls : List (List ℕ)). leftBy rom w₀ ls .book) (c .whole ∙ sym (append-assoc (c .before) (c .line ∷ []) (c .since)))
+                ∙ book-append rom (c .before ++ (c .line ∷ [])) w₀ newBook (c .since))
+
+            alone-then : AreaLeft (found (sessionAfter the-begun)) (callsOf rom (sessionAfter the-begun) (the-begun .since))
+            unfolding the-begun
+            alone-then =
+                none-landed rom (c .since) (sessionAfter the-begun) (leftBy rom w₀ (c .before ++ (c .line ∷ [])) .book)
+                (long-all rom (c .before ++ (c .line ∷ [])) w₀ newBook refl) (the-begun .through) (ap (λ (b : List ℕ). noted b writes) book-then ∙ z) .1
+
+            left-then : AreaLeft (worldAfter s) (s .since)
+            unfolding the-begun
+            left-then p here = sym (λ i. landedSeen p (after-same i) (since-same i)) ∙ alone-then p here
+
+            the-whole : WholeTold rom w₀ lines line (leftBy rom w₀ lines .world .state .started) (cyclesOf (found (leftBy rom w₀ lines .world)) k)
+                (crcOf (plateOf (leaves (found (leftBy rom w₀ lines .world)) k .ram)))
+            unfolding the-started
+            the-whole =
+                let lent : s .image ≡ sessionBefore the-begun .image = unfold the-begun in sym (is-write .1) in
+                let regs : registersOf s ≡ the-begun .registers = sym registers-then in
+                record {
+                  from = the-started;
+                  alone = alone-then;
+                  total = total-then;
+                  picture = ap areaOf ram-then ∙ ended-picture s k over-then bytes bytes-then left-then ∙ (λ i. afresh (lent i) (regs i));
+                  of-area = ap (λ (r : List ℕ). crcOf (plateOf r)) ram-now;
+                  of-picture =
+                      ap (λ (r : List ℕ). crcOf (plateOf r)) (ram-now ∙ ram-then)
+                      ∙ ap crcOf (ended-plate s k over-then bytes bytes-then left-then ∙ (λ i. plateAfresh (litOf (lent i) (settingOf (regs i))) (regs i)));
+                }
+
+-- held before an end
+end-held : (w : Found) (k : Call) → endSeen w k ≡ true → w .state .held ≡ true
+unfolding endSeen
+end-held w k h = both-left (w .state .held) _ h
+
+module _ (rom ram store image : List ℕ) (lines : List (List ℕ)) (line : List ℕ) where
+  abbrev here : World
+  here = leftBy rom (atReset ram store image) lines .world
+
+  abbrev call : Call
+  call = callOf rom (here .image) (frameOf line)
+
+  the-start : here .state .held ≡ true → Start ram store (callsOf rom (atReset ram store image) lines)
+  the-start on =
+      begun-seen ram store (callsOf rom (atReset ram store image) lines)
+      (sym (ap (λ (x : Found). x .state .held) (audit-found rom (atReset ram store image) newBook lines)) ∙ on)
+
+  -- Whole: from reset, with any RAM whose bytes are bytes, any frame store, image and ROM, and a new book, after any lines: if the next line's
+  -- event is `whole`, the plate is that of its own start, of the image lent then and of the registers then
+  pub whole-told : Bytes ram → (serial cycles plate : ℕ) → nextEvent rom (atReset ram store image) lines line ≡ whole serial cycles plate
+      → WholeTold rom (atReset ram store image) lines line serial cycles plate
+  whole-told bytes serial cycles plate e =
+      let is = is-whole (leftBy rom (atReset ram store image) lines .book) (here .image) (found here) call serial cycles plate e in
+      let s = the-start (end-held (found here) call (is .over)) in
+      subst (λ (n : ℕ). WholeTold rom (atReset ram store image) lines line n cycles plate) (is .serial)
+      (subst (λ (n : ℕ). WholeTold rom (atReset ram store image) lines line (here .state .started) n plate) (is .cycles)
+      (subst (λ (n : ℕ). WholeTold rom (atReset ram store image) lines line (here .state .started) (cyclesOf (found here) call) n) (is .plate)
+      (the-whole rom ram store image lines s line (is .over) bytes (is .none))))
