@@ -1,13 +1,13 @@
 -- What the events of a recording tell, from reset on, after any lines. Assumes nothing.
 use mathlib.Core.Path.{_≡_, refl, sym, ap, subst, _∙_}
 use mathlib.Core.Bool.{Bool, true, false, not, _&&_}
-use mathlib.Core.List.{List, [], _∷_, _++_, append-assoc, append-inj, head-eq-of-cons-eq, tail-eq-of-cons-eq}
+use mathlib.Core.List.{List, [], _∷_, _++_, append-assoc, append-nil, head-eq-of-cons-eq, tail-eq-of-cons-eq}
 use Prim.Native.Nat.{ℕ, suc, _+_, _%_}
 use native.Mathlib.Nat.{add-zero}
 use native.Mathlib.Omega.{arith}
 use lib.Dec.{eqb}
 use lib.ListN.{length, set}
-use borrow.Author.Tests.{eqb-true, eqb-false}
+use borrow.Author.Tests.{eqb-true, eqb-false, eq-eqb}
 use Rattle.laws.specs.Pick.{pick}
 use Rattle.laws.proofs.Bools.{either, not-both, both-left, both-right, both-hold}
 use Rattle.laws.proofs.Pick.{pick-ind}
@@ -16,10 +16,11 @@ use Rattle.timing.specs.Timing.{totalOf}
 use Rattle.lighting.specs.Taken.{settingOf}
 use Rattle.lighting.specs.Light.{litOf}
 use Rattle.tiles.specs.Tiles.{areaOf, Bytes}
+use Rattle.capture.specs.Capture.{running}
 use Rattle.plates.specs.Grey.{plateOf, plateAfresh}
 use Rattle.history.specs.History.{Call, reset, read, write, tick, inspect, choose, place, fresh, leaves, answers, countIn, after, counted}
 use Rattle.history.specs.History.{World as Found}
-use Rattle.history.specs.Seen.{isReset, inArea, startSeen, endSeen, heldThrough, landedSeen, AreaLeft, byteIn, bytesIn, Start, startOf, worldBefore, worldAfter, registersOf, afresh, countsOf}
+use Rattle.history.specs.Seen.{isReset, inArea, startSeen, endSeen, heldThrough, landsSeen, landedSeen, AreaLeft, byteIn, bytesIn, Start, startOf, worldBefore, worldAfter, registersOf, afresh, countsOf}
 use Rattle.history.proofs.Track.{Track, starts, next, told}
 use Rattle.history.proofs.Follows.{Moment, at-reset, moment-next, moment-after}
 use Rattle.history.proofs.Goes.{counted-append, after-append}
@@ -27,14 +28,15 @@ use Rattle.history.proofs.Counts.{counts-next}
 use Rattle.history.proofs.Observed.{starts-seen, own-seen, begun-seen, only-start, ended-cycles, ended-picture, ended-plate}
 use Rattle.lines.specs.declared.line.Frame.the-variants.{Write}
 use Rattle.lines.specs.Line.{frameOf}
+use Rattle.session.specs.Answer.{numberSaid}
 use Rattle.session.specs.Session.{World, stepOf}
 use Rattle.audit.specs.Book.{noted, newBook, writes, first, last, row}
 use Rattle.audit.specs.Event.{Event, none, start, stop, resume, dropped, landed, whole, touched, found, callOf, stopSeen, resumeSeen, dropSeen, placeOf, writeSeen, cyclesOf, endOf, seenOf}
-use Rattle.audit.specs.Line.{auditOf, auditAll}
+use Rattle.audit.specs.Line.{lineCounted, eventCounted, auditOf, auditAll}
 use Rattle.audited.specs.Sessions.{callsOf, atReset, leftBy, nextEvent}
-use Rattle.audited.specs.Told.{Begun, sessionBefore, sessionAfter, countsSince, OneBegun, Started, WholeTold}
-use Rattle.audited.proofs.Sessions.{line-found, audit-found, world-append, world-more, book-append, calls-append, calls-more, Cut, cut, write-is, lines-bytes}
-use Rattle.audited.proofs.Writes.{long-all, no-reset, none-landed}
+use Rattle.audited.specs.Told.{Begun, sessionBefore, sessionAfter, countsSince, OneBegun, Started, WholeTold, Landing, TouchedTold}
+use Rattle.audited.proofs.Sessions.{line-found, audit-found, world-append, world-more, book-append, book-more, calls-append, calls-more, Cut, cut, write-is, lines-bytes}
+use Rattle.audited.proofs.Writes.{Long, long-line, long-all, no-reset, none-landed, left-none, some-landed, start-none}
 
 -- ---- the serial stays while a capture is held
 
@@ -114,6 +116,13 @@ seen-start : (book image : List ℕ) (w : Found) (k : Call) → startSeen w k �
     → seenOf book image w k ≡ start (leaves w k .state .started) (crcOf image) (noted book row) (leaves w k .state .taken)
 unfolding seenOf
 seen-start book image w k h = rw h
+
+seen-whole : (book image : List ℕ) (w : Found) (k : Call) → endSeen w k ≡ true → noted book writes ≡ 0
+    → seenOf book image w k ≡ whole (w .state .started) (cyclesOf w k) (crcOf (plateOf (leaves w k .ram)))
+unfolding seenOf endOf
+seen-whole book image w k h z =
+    let off : startSeen w k ≡ false = unfold startSeen endSeen in rw (both-left (w .state .held) _ h) in
+    rw (off, h, eq-eqb (noted book writes) 0 z)
 
 -- kinds of events, and the numbers of one
 kindOf : Event → ℕ
@@ -206,6 +215,98 @@ module _ (book image : List ℕ) (w : Found) (k : Call) where
       })
       (λ _ e. absurd (omega (arith, ap kindOf e))))
       (λ _ e. absurd (omega (arith, ap kindOf e)))
+      (λ _ e. absurd (omega (arith, ap kindOf e)))
+      (λ _ e. absurd (omega (arith, ap kindOf e)))
+      (λ _ e. absurd (omega (arith, ap kindOf e)))
+      (λ e. absurd (omega (arith, ap kindOf e)))
+
+  -- an end that is touched
+  record IsTouched (s c p : ℕ) : Type 0 where
+    pub over : endSeen w k ≡ true
+    pub some : noted book writes ≡ 0 → ⊥
+    pub serial : w .state .started ≡ s
+    pub cycles : cyclesOf w k ≡ c
+    pub plate : crcOf (plateOf (leaves w k .ram)) ≡ p
+
+  is-touched : (s c p n f t : ℕ) → seenOf book image w k ≡ touched s c p n f t → IsTouched s c p
+  unfolding kindOf numbersOf endOf
+  is-touched s c p n f t =
+      seen-cases book image w k (λ (x : Event). x ≡ touched s c p n f t → IsTouched s c p)
+      (λ _ e. absurd (omega (arith, ap kindOf e)))
+      (λ h.
+      pick-ind (λ (x : Event). x ≡ touched s c p n f t → IsTouched s c p) (eqb (noted book writes) 0)
+      (λ _ e. absurd (omega (arith, ap kindOf e)))
+      (λ z e.
+      let g = ap numbersOf e in
+      record {
+        over = h;
+        some = eqb-false (noted book writes) 0 z;
+        serial = ap (λ (x : Numbers). x .serial) g;
+        cycles = ap (λ (x : Numbers). x .cycles) g;
+        plate = ap (λ (x : Numbers). x .plate) g;
+      }))
+      (λ _ e. absurd (omega (arith, ap kindOf e)))
+      (λ _ e. absurd (omega (arith, ap kindOf e)))
+      (λ _ e. absurd (omega (arith, ap kindOf e)))
+      (λ _ e. absurd (omega (arith, ap kindOf e)))
+      (λ e. absurd (omega (arith, ap kindOf e)))
+
+  -- an event between them
+  record IsMark (s c : ℕ) : Type 0 where
+    pub held : w .state .held ≡ true
+    pub serial : w .state .started ≡ s
+    pub cycles : cyclesOf w k ≡ c
+
+  is-mark : (s c : ℕ) (x : Event) → w .state .held ≡ true → numbersOf x .serial ≡ w .state .started → numbersOf x .cycles ≡ cyclesOf w k
+      → (y : Event) → numbersOf y .serial ≡ s → numbersOf y .cycles ≡ c → x ≡ y → IsMark s c
+  is-mark s c x h a b y f g e =
+      let n = ap numbersOf e in
+      record { held = h; serial = sym a ∙ ap (λ (v : Numbers). v .serial) n ∙ f; cycles = sym b ∙ ap (λ (v : Numbers). v .cycles) n ∙ g }
+
+  stop-held : stopSeen w k ≡ true → w .state .held ≡ true
+  unfolding stopSeen
+  stop-held h = both-left (w .state .held) _ (both-left (running (w .state)) _ h)
+
+  is-stop : (s c : ℕ) → seenOf book image w k ≡ stop s c → IsMark s c
+  unfolding kindOf numbersOf endOf
+  is-stop s c =
+      seen-cases book image w k (λ (x : Event). x ≡ stop s c → IsMark s c)
+      (λ _ e. absurd (omega (arith, ap kindOf e)))
+      (λ _.
+      pick-ind (λ (x : Event). x ≡ stop s c → IsMark s c) (eqb (noted book writes) 0)
+      (λ _ e. absurd (omega (arith, ap kindOf e)))
+      (λ _ e. absurd (omega (arith, ap kindOf e))))
+      (λ _ e. absurd (omega (arith, ap kindOf e)))
+      (λ _ e. absurd (omega (arith, ap kindOf e)))
+      (λ h e. is-mark s c _ (stop-held h) refl refl (stop s c) refl refl e)
+      (λ _ e. absurd (omega (arith, ap kindOf e)))
+      (λ e. absurd (omega (arith, ap kindOf e)))
+
+  is-resume : (s c : ℕ) → seenOf book image w k ≡ resume s c → IsMark s c
+  unfolding kindOf numbersOf endOf resumeSeen
+  is-resume s c =
+      seen-cases book image w k (λ (x : Event). x ≡ resume s c → IsMark s c)
+      (λ _ e. absurd (omega (arith, ap kindOf e)))
+      (λ _.
+      pick-ind (λ (x : Event). x ≡ resume s c → IsMark s c) (eqb (noted book writes) 0)
+      (λ _ e. absurd (omega (arith, ap kindOf e)))
+      (λ _ e. absurd (omega (arith, ap kindOf e))))
+      (λ _ e. absurd (omega (arith, ap kindOf e)))
+      (λ _ e. absurd (omega (arith, ap kindOf e)))
+      (λ _ e. absurd (omega (arith, ap kindOf e)))
+      (λ h e. is-mark s c _ (both-left (w .state .held) _ h) refl refl (resume s c) refl refl e)
+      (λ e. absurd (omega (arith, ap kindOf e)))
+
+  is-dropped : (s c : ℕ) → seenOf book image w k ≡ dropped s c → IsMark s c
+  unfolding kindOf numbersOf endOf dropSeen
+  is-dropped s c =
+      seen-cases book image w k (λ (x : Event). x ≡ dropped s c → IsMark s c)
+      (λ _ e. absurd (omega (arith, ap kindOf e)))
+      (λ _.
+      pick-ind (λ (x : Event). x ≡ dropped s c → IsMark s c) (eqb (noted book writes) 0)
+      (λ _ e. absurd (omega (arith, ap kindOf e)))
+      (λ _ e. absurd (omega (arith, ap kindOf e))))
+      (λ h e. is-mark s c _ (both-left (w .state .held) _ h) refl refl (dropped s c) refl refl e)
       (λ _ e. absurd (omega (arith, ap kindOf e)))
       (λ _ e. absurd (omega (arith, ap kindOf e)))
       (λ _ e. absurd (omega (arith, ap kindOf e)))
@@ -340,6 +441,27 @@ module _ (rom ram store image : List ℕ) where
       unfolding the-begun
       registers-then = ap (λ (x : Found). x .state .taken) (λ i. leaves (before-same i) (c .here i)) ∙ taken-then s
 
+      started-with : (more : List (List ℕ)) (cycles : ℕ) → cycles ≡ countsSince the-begun more → Started rom w₀ lines more (leftBy rom w₀ lines .world .state .started) cycles
+      unfolding the-begun
+      started-with more cycles e = record {
+        begun = the-begun;
+        one = one-begun the-begun;
+        address = s .address;
+        byte = s .byte;
+        write = is-write .0;
+        checksum = refl;
+        registers = registers-then ∙ ap (λ (x : Found). set (x .state .registers) 0 (s .byte % 8)) (sym before-same);
+        counts = e;
+      }
+
+      -- no line more
+      the-held : Started rom w₀ lines [] (leftBy rom w₀ lines .world .state .started) (leftBy rom w₀ lines .world .state .elapsed .0)
+      unfolding the-begun callsOf
+      the-held =
+          let v = stepOf rom (leftBy rom w₀ (c .before) .world) (c .line) .world in
+          let x : callsOf rom v (c .since ++ []) ≡ s .since = ap (callsOf rom v) (append-nil (c .since)) ∙ c .rest in
+          started-with [] _ (ap (λ (y : Found). y .state .elapsed .0) (found-by lines) ∙ own-seen s .elapsed ∙ sym (λ i. counted (before-same i) (c .here i ∷ x i)))
+
       -- one line more
       module _ (line : List ℕ) where
         abbrev k : Call
@@ -351,7 +473,7 @@ module _ (rom ram store image : List ℕ) where
         unfolding auditAll auditOf
         then-same = sym (ap (λ (ls : List (List ℕ)). leftBy rom w₀ ls .world) (c .whole) ∙ world-append rom (c .before) w₀ newBook (c .line ∷ c .since))
 
-        same-counts : countsSince the-begun line ≡ countsOf s k
+        same-counts : countsSince the-begun (line ∷ []) ≡ countsOf s k
         unfolding the-begun callsOf
         same-counts =
             let v = stepOf rom (leftBy rom w₀ (c .before) .world) (c .line) .world in
@@ -360,22 +482,12 @@ module _ (rom ram store image : List ℕ) where
             calls-more rom v b (c .since) line ∙ (λ i. c .rest i ++ (callOf rom (then-same i .image) (frameOf line) ∷ [])) in
             (λ i. counted (before-same i) (c .here i ∷ x i))
 
-        cycles-then : cyclesOf (found (leftBy rom w₀ lines .world)) k ≡ countsSince the-begun line
+        cycles-then : cyclesOf (found (leftBy rom w₀ lines .world)) k ≡ countsSince the-begun (line ∷ [])
         cycles-then = ap (λ (x : Found). cyclesOf x k) (found-by lines) ∙ same-cycles s k ∙ sym same-counts
 
         -- what an event with the serial and the cycles so far tells
-        the-started : Started rom w₀ lines line (leftBy rom w₀ lines .world .state .started) (cyclesOf (found (leftBy rom w₀ lines .world)) k)
-        unfolding the-begun
-        the-started = record {
-          begun = the-begun;
-          one = one-begun the-begun;
-          address = s .address;
-          byte = s .byte;
-          write = is-write .0;
-          checksum = refl;
-          registers = registers-then ∙ ap (λ (x : Found). set (x .state .registers) 0 (s .byte % 8)) (sym before-same);
-          counts = cycles-then;
-        }
+        the-started : Started rom w₀ lines (line ∷ []) (leftBy rom w₀ lines .world .state .started) (cyclesOf (found (leftBy rom w₀ lines .world)) k)
+        the-started = started-with (line ∷ []) _ cycles-then
 
         -- the line after which it ended
         module _ (h : endSeen (found (leftBy rom w₀ lines .world)) k ≡ true) where
@@ -397,19 +509,66 @@ module _ (rom ram store image : List ℕ) where
           bytes-then : bytesIn (cs ++ (k ∷ [])) ≡ true
           bytes-then = ap bytesIn (sym all-calls) ∙ lines-bytes rom (lines ++ (line ∷ [])) w₀
 
-          module _ (bytes : Bytes ram) (z : noted (leftBy rom w₀ lines .book) writes ≡ 0) where
-            book-then : auditAll rom (sessionAfter the-begun) (leftBy rom w₀ (c .before ++ (c .line ∷ [])) .book) (c .since) .book ≡ leftBy rom w₀ lines .book
-            unfolding the-begun
-            book-then =
-                sym
-                (ap (λ (ls : List (List ℕ)). leftBy rom w₀ ls .book) (c .whole ∙ sym (append-assoc (c .before) (c .line ∷ []) (c .since)))
-                ∙ book-append rom (c .before ++ (c .line ∷ [])) w₀ newBook (c .since))
+          book-then : auditAll rom (sessionAfter the-begun) (leftBy rom w₀ (c .before ++ (c .line ∷ [])) .book) (c .since) .book ≡ leftBy rom w₀ lines .book
+          unfolding the-begun
+          book-then =
+              sym
+              (ap (λ (ls : List (List ℕ)). leftBy rom w₀ ls .book) (c .whole ∙ sym (append-assoc (c .before) (c .line ∷ []) (c .since)))
+              ∙ book-append rom (c .before ++ (c .line ∷ [])) w₀ newBook (c .since))
 
+          -- the book has no writes after the start's line
+          begun-none : noted (leftBy rom w₀ (c .before ++ (c .line ∷ [])) .book) writes ≡ 0
+          unfolding the-begun auditOf
+          begun-none =
+              let w = leftBy rom w₀ (c .before) .world in
+              let b = leftBy rom w₀ (c .before) .book in
+              let counted = lineCounted b (frameOf (c .line)) (numberSaid (stepOf rom w (c .line) .text)) in
+              ap (λ (x : List ℕ). noted x writes) (book-more rom w₀ newBook (c .before) (c .line))
+              ∙ ap (λ (x : Event). noted (eventCounted counted x) writes) (the-begun .begins)
+              ∙ start-none counted _ _ _ _ (long-line b (frameOf (c .line)) (numberSaid (stepOf rom w (c .line) .text)) (long-all rom (c .before) w₀ newBook refl))
+
+          long-then : Long (leftBy rom w₀ (c .before ++ (c .line ∷ [])) .book)
+          long-then = long-all rom (c .before ++ (c .line ∷ [])) w₀ newBook refl
+
+          module _ (some : noted (leftBy rom w₀ lines .book) writes ≡ 0 → ⊥) where
+            the-landing : Landing rom w₀ lines (leftBy rom w₀ lines .world .state .started) the-begun
+            unfolding the-begun
+            the-landing =
+                let w = sessionAfter the-begun in
+                let b = leftBy rom w₀ (c .before ++ (c .line ∷ [])) .book in
+                let f = some-landed rom (c .since) w b long-then (the-begun .through) begun-none (λ z. some (ap (λ (x : List ℕ). noted x writes) (sym book-then) ∙ z)) in
+                let e : auditAll rom w b (f .earlier) .world ≡ leftBy rom w₀ (c .before ++ (c .line ∷ f .earlier)) .world =
+                sym
+                (ap (λ (ls : List (List ℕ)). leftBy rom w₀ ls .world) (sym (append-assoc (c .before) (c .line ∷ []) (f .earlier)))
+                ∙ world-append rom (c .before ++ (c .line ∷ [])) w₀ newBook (f .earlier)) in
+                record {
+                  earlier = f .earlier;
+                  line = f .line;
+                  later = f .later;
+                  among = f .among;
+                  place = f .at;
+                  inside = f .inside;
+                  lands = sym (λ i. landsSeen (found (e i)) (callOf rom (e i .image) (frameOf (f .line))) (f .at)) ∙ f .lands;
+                }
+
+            the-touched : TouchedTold rom w₀ lines line (leftBy rom w₀ lines .world .state .started) (cyclesOf (found (leftBy rom w₀ lines .world)) k)
+                (crcOf (plateOf (leaves (found (leftBy rom w₀ lines .world)) k .ram)))
+            unfolding the-started started-with
+            the-touched = record { from = the-started; landing = the-landing; total = total-then; of-area = ap (λ (r : List ℕ). crcOf (plateOf r)) ram-now }
+
+          -- none landed in the area
+          none-then : AreaLeft (found (sessionAfter the-begun)) (callsOf rom (sessionAfter the-begun) (the-begun .since)) → noted (leftBy rom w₀ lines .book) writes ≡ 0
+          unfolding the-begun
+          none-then left =
+              ap (λ (x : List ℕ). noted x writes) (sym book-then)
+              ∙ left-none rom (c .since) (sessionAfter the-begun) (leftBy rom w₀ (c .before ++ (c .line ∷ [])) .book) long-then (the-begun .through) left begun-none
+
+          module _ (bytes : Bytes ram) (z : noted (leftBy rom w₀ lines .book) writes ≡ 0) where
             alone-then : AreaLeft (found (sessionAfter the-begun)) (callsOf rom (sessionAfter the-begun) (the-begun .since))
             unfolding the-begun
             alone-then =
                 none-landed rom (c .since) (sessionAfter the-begun) (leftBy rom w₀ (c .before ++ (c .line ∷ [])) .book)
-                (long-all rom (c .before ++ (c .line ∷ [])) w₀ newBook refl) (the-begun .through) (ap (λ (b : List ℕ). noted b writes) book-then ∙ z) .1
+                long-then (the-begun .through) (ap (λ (b : List ℕ). noted b writes) book-then ∙ z) .1
 
             left-then : AreaLeft (worldAfter s) (s .since)
             unfolding the-begun
@@ -417,7 +576,7 @@ module _ (rom ram store image : List ℕ) where
 
             the-whole : WholeTold rom w₀ lines line (leftBy rom w₀ lines .world .state .started) (cyclesOf (found (leftBy rom w₀ lines .world)) k)
                 (crcOf (plateOf (leaves (found (leftBy rom w₀ lines .world)) k .ram)))
-            unfolding the-started
+            unfolding the-started started-with
             the-whole =
                 let lent : s .image ≡ sessionBefore the-begun .image = unfold the-begun in sym (is-write .1) in
                 let regs : registersOf s ≡ the-begun .registers = sym registers-then in
@@ -460,3 +619,55 @@ module _ (rom ram store image : List ℕ) (lines : List (List ℕ)) (line : List
       (subst (λ (n : ℕ). WholeTold rom (atReset ram store image) lines line (here .state .started) n plate) (is .cycles)
       (subst (λ (n : ℕ). WholeTold rom (atReset ram store image) lines line (here .state .started) (cyclesOf (found here) call) n) (is .plate)
       (the-whole rom ram store image lines s line (is .over) bytes (is .none))))
+
+  -- Touched: and if it is `touched`, some line since its start landed in the area
+  pub touched-told : (serial cycles plate writes first last : ℕ) → nextEvent rom (atReset ram store image) lines line ≡ touched serial cycles plate writes first last
+      → TouchedTold rom (atReset ram store image) lines line serial cycles plate
+  touched-told serial cycles plate writes first last e =
+      let is = is-touched (leftBy rom (atReset ram store image) lines .book) (here .image) (found here) call serial cycles plate writes first last e in
+      let s = the-start (end-held (found here) call (is .over)) in
+      subst (λ (n : ℕ). TouchedTold rom (atReset ram store image) lines line n cycles plate) (is .serial)
+      (subst (λ (n : ℕ). TouchedTold rom (atReset ram store image) lines line (here .state .started) n plate) (is .cycles)
+      (subst (λ (n : ℕ). TouchedTold rom (atReset ram store image) lines line (here .state .started) (cyclesOf (found here) call) n) (is .plate)
+      (the-touched rom ram store image lines s line (is .over) (is .some))))
+
+  -- Whole said: an end since whose start no line landed in the area is said to be whole
+  pub whole-said : (s : Begun rom (atReset ram store image) lines (here .state .started)) → AreaLeft (found (sessionAfter s)) (callsOf rom (sessionAfter s) (s .since))
+      → endSeen (found here) call ≡ true
+      → nextEvent rom (atReset ram store image) lines line ≡ whole (here .state .started) (cyclesOf (found here) call) (crcOf (plateOf (leaves (found here) call .ram)))
+  whole-said s left h =
+      let w₀ = atReset ram store image in
+      let t = the-start (end-held (found here) call h) in
+      let g = the-begun rom ram store image lines t in
+      let o = one-begun rom ram store image lines s g in
+      let l : AreaLeft (found (sessionAfter g)) (callsOf rom (sessionAfter g) (g .since)) =
+      λ p inside.
+      (λ i. landedSeen p (found (leftBy rom w₀ (o .before i ++ (o .line i ∷ [])) .world)) (callsOf rom (leftBy rom w₀ (o .before i ++ (o .line i ∷ [])) .world) (o .since i)))
+      ∙ left p inside in
+      seen-whole (leftBy rom w₀ lines .book) (here .image) (found here) call h (none-then rom ram store image lines t line h l)
+
+  mark-told : (serial cycles : ℕ) → IsMark (leftBy rom (atReset ram store image) lines .book) (here .image) (found here) call serial cycles
+      → Started rom (atReset ram store image) lines (line ∷ []) serial cycles
+  mark-told serial cycles is =
+      let s = the-start (is .held) in
+      subst (λ (n : ℕ). Started rom (atReset ram store image) lines (line ∷ []) n cycles) (is .serial)
+      (subst (λ (n : ℕ). Started rom (atReset ram store image) lines (line ∷ []) (here .state .started) n) (is .cycles)
+      (the-started rom ram store image lines s line))
+
+  -- Stopped, resumed, dropped: the serial is that of one start, and the cycles are the counts since, added up
+  pub stop-told : (serial cycles : ℕ) → nextEvent rom (atReset ram store image) lines line ≡ stop serial cycles
+      → Started rom (atReset ram store image) lines (line ∷ []) serial cycles
+  stop-told serial cycles e = mark-told serial cycles (is-stop (leftBy rom (atReset ram store image) lines .book) (here .image) (found here) call serial cycles e)
+
+  pub resume-told : (serial cycles : ℕ) → nextEvent rom (atReset ram store image) lines line ≡ resume serial cycles
+      → Started rom (atReset ram store image) lines (line ∷ []) serial cycles
+  resume-told serial cycles e = mark-told serial cycles (is-resume (leftBy rom (atReset ram store image) lines .book) (here .image) (found here) call serial cycles e)
+
+  pub dropped-told : (serial cycles : ℕ) → nextEvent rom (atReset ram store image) lines line ≡ dropped serial cycles
+      → Started rom (atReset ram store image) lines (line ∷ []) serial cycles
+  dropped-told serial cycles e = mark-told serial cycles (is-dropped (leftBy rom (atReset ram store image) lines .book) (here .image) (found here) call serial cycles e)
+
+-- Held: of a capture that is held after lines, as the end of an audit says it
+pub held-told : (rom ram store image : List ℕ) (lines : List (List ℕ)) → leftBy rom (atReset ram store image) lines .world .state .held ≡ true
+    → Started rom (atReset ram store image) lines [] (leftBy rom (atReset ram store image) lines .world .state .started) (leftBy rom (atReset ram store image) lines .world .state .elapsed .0)
+held-told rom ram store image lines on = the-held rom ram store image lines (the-start rom ram store image lines [] on)

@@ -9,7 +9,7 @@ use lib.ListN.{length, getD, set, length-set}
 use lib.Seq.{getD-set-same, getD-set-other}
 use borrow.Author.Tests.{eqb-true, eqb-false, ltb-false}
 use Rattle.laws.specs.Pick.{pick}
-use Rattle.laws.proofs.Bools.{either, not-both, both-left, both-right, both-hold}
+use Rattle.laws.proofs.Bools.{either, not-both, both-left, both-right, both-hold, neither-left, neither-right}
 use Rattle.laws.proofs.Pick.{pick-ind}
 use Rattle.controller.specs.State.{resetState}
 use Rattle.cartridge.specs.Bus.{registersOn, ramWritable, ramPlace}
@@ -36,7 +36,7 @@ Long b = length b ≡ 13
 long-set : (b : List ℕ) (k v : ℕ) → Long b → Long (set b k v)
 long-set b k v l = length-set b k v ∙ l
 
-long-line : (b : List ℕ) (f : Frame) (n : ℕ) → Long b → Long (lineCounted b f n)
+pub long-line : (b : List ℕ) (f : Frame) (n : ℕ) → Long b → Long (lineCounted b f n)
 unfolding lineCounted
 long-line b f n l =
     let m : Long (more b lines) = long-set b lines _ l in
@@ -224,19 +224,36 @@ none-landed rom (line ∷ rest) w b l h z =
     let n = line-none rom w b line l (f .0) (f .1) (r .0) in
     (n .0, λ p here. rw (lands-nowhere rom w b line l (f .0) (f .1) (n .1) p here, ← line-found rom w line, r .1 p here))
 
+-- None landed: where it had none and none landed in the area, it has none at the end
+pub left-none : (rom : List ℕ) (lines : List (List ℕ)) (w : World) (b : List ℕ) → Long b → heldThrough (found w) (callsOf rom w lines) ≡ true
+    → AreaLeft (found w) (callsOf rom w lines) → noted b writes ≡ 0 → noted (auditAll rom w b lines .book) writes ≡ 0
+unfolding auditAll auditOf callsOf landedSeen
+left-none rom [] w b l h left z = z
+left-none rom (line ∷ rest) w b l h left z =
+    let f = first-held rom w line rest h in
+    let k = callOf rom (w .image) (frameOf line) in
+    let off : touches (found w) k ≡ false =
+    unfold touches writeSeen in
+    either (inArea (placeOf (found w) k))
+    (λ here. rw (neither-left (landsSeen (found w) k (placeOf (found w) k)) _ (left (placeOf (found w) k) here), and-false))
+    (λ out. rw (out, and-false)) in
+    left-none rom rest (stepOf rom w line .world) (auditOf rom w b line .book) (long-next rom w b line l) (f .2)
+    (λ p here. rw (line-found rom w line) (neither-right (landsSeen (found w) k p) _ (left p here)))
+    ((rw off at (line-writes rom w b line l (f .0) (f .1))) ∙ z)
+
 -- a line among lines that lands in the area
-pub record Landing (rom : List ℕ) (w : World) (b : List ℕ) (lines : List (List ℕ)) : Type 0 where
-  pub before : List (List ℕ)
+pub record Found-landing (rom : List ℕ) (w : World) (b : List ℕ) (lines : List (List ℕ)) : Type 0 where
+  pub earlier : List (List ℕ)
   pub line : List ℕ
-  pub rest : List (List ℕ)
-  pub split : lines ≡ before ++ (line ∷ rest)
+  pub later : List (List ℕ)
+  pub among : lines ≡ earlier ++ (line ∷ later)
   pub at : ℕ
-  pub here : inArea at ≡ true
-  pub lands : landsSeen (found (auditAll rom w b before .world)) (callOf rom (auditAll rom w b before .world .image) (frameOf line)) at ≡ true
+  pub inside : inArea at ≡ true
+  pub lands : landsSeen (found (auditAll rom w b earlier .world)) (callOf rom (auditAll rom w b earlier .world .image) (frameOf line)) at ≡ true
 
 -- Some writes: where the book has some at the end and had none, some landed in the area
 pub some-landed : (rom : List ℕ) (lines : List (List ℕ)) (w : World) (b : List ℕ) → Long b → heldThrough (found w) (callsOf rom w lines) ≡ true
-    → noted b writes ≡ 0 → (noted (auditAll rom w b lines .book) writes ≡ 0 → ⊥) → Landing rom w b lines
+    → noted b writes ≡ 0 → (noted (auditAll rom w b lines .book) writes ≡ 0 → ⊥) → Found-landing rom w b lines
 unfolding auditAll auditOf touches writeSeen
 some-landed rom [] w b l h z some = absurd (some z)
 some-landed rom (line ∷ rest) w b l h z some =
@@ -246,16 +263,16 @@ some-landed rom (line ∷ rest) w b l h z some =
     either (eqb (noted b′ writes) 0)
     (λ e.
     let r = some-landed rom rest (stepOf rom w line .world) b′ (long-next rom w b line l) (f .2) (eqb-true _ 0 e) some in
-    record { before = line ∷ r .before; line = r .line; rest = r .rest; split = (λ i. line ∷ r .split i); at = r .at; here = r .here; lands = r .lands })
+    record { earlier = line ∷ r .earlier; line = r .line; later = r .later; among = (λ i. line ∷ r .among i); at = r .at; inside = r .inside; lands = r .lands })
     (λ e.
     let t = line-some rom w b line l (f .0) (f .1) (λ y. eqb-false _ 0 e y) z in
     record {
-      before = [];
+      earlier = [];
       line = line;
-      rest = rest;
-      split = refl;
+      later = rest;
+      among = refl;
       at = placeOf (found w) k;
-      here = both-right (w .state .held && landsSeen (found w) k (placeOf (found w) k)) (inArea (placeOf (found w) k)) t;
+      inside = both-right (w .state .held && landsSeen (found w) k (placeOf (found w) k)) (inArea (placeOf (found w) k)) t;
       lands = both-right (w .state .held) _ (both-left (w .state .held && landsSeen (found w) k (placeOf (found w) k)) (inArea (placeOf (found w) k)) t);
     })
 

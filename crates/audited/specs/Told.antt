@@ -37,9 +37,9 @@ sessionBefore {rom} {w} s = leftBy rom w (s .before) .world
 abbrev pub sessionAfter : {rom : List ℕ} {w : World} {lines : List (List ℕ)} {serial : ℕ} → Begun rom w lines serial → World
 sessionAfter {rom} {w} s = leftBy rom w (s .before ++ (s .line ∷ [])) .world
 
--- the counts that the ticks returned from that line on, with those of one line more, added up
-abbrev pub countsSince : {rom : List ℕ} {w : World} {lines : List (List ℕ)} {serial : ℕ} → Begun rom w lines serial → List ℕ → ℕ
-countsSince {rom} s line = counted (found (sessionBefore s)) (callsOf rom (sessionBefore s) (s .line ∷ (s .since ++ (line ∷ []))))
+-- the counts that the ticks returned from that line on, with those of these lines more, added up
+abbrev pub countsSince : {rom : List ℕ} {w : World} {lines : List (List ℕ)} {serial : ℕ} → Begun rom w lines serial → List (List ℕ) → ℕ
+countsSince {rom} s more = counted (found (sessionBefore s)) (callsOf rom (sessionBefore s) (s .line ∷ (s .since ++ more)))
 
 -- two such starts of the same lines are one
 pub record OneBegun {rom : List ℕ} {w : World} {lines : List (List ℕ)} {serial : ℕ} (s other : Begun rom w lines serial) : Type 0 where
@@ -47,9 +47,9 @@ pub record OneBegun {rom : List ℕ} {w : World} {lines : List (List ℕ)} {seri
   pub line : other .line ≡ s .line
   pub since : other .since ≡ s .since
 
--- what an event with this serial and these cycles tells: it has such a start, and one; the image whose checksum the start said is the one lent
+-- what an event with this serial and these cycles tells, after lines and with these more: it has such a start, and one; the image whose checksum the start said is the one lent
 -- then; the registers that it said are those in force then, with the new register 0; and the cycles are the counts since, added up
-pub record Started (rom : List ℕ) (w : World) (lines : List (List ℕ)) (line : List ℕ) (serial cycles : ℕ) : Type 0 where
+pub record Started (rom : List ℕ) (w : World) (lines more : List (List ℕ)) (serial cycles : ℕ) : Type 0 where
   pub begun : Begun rom w lines serial
   pub one : (other : Begun rom w lines serial) → OneBegun begun other
   pub address : ℕ
@@ -57,14 +57,33 @@ pub record Started (rom : List ℕ) (w : World) (lines : List (List ℕ)) (line 
   pub write : frameOf (begun .line) ≡ Write address byte
   pub checksum : begun .checksum ≡ crcOf (sessionBefore begun .image)
   pub registers : begun .registers ≡ set (sessionBefore begun .state .registers) 0 (byte % 8)
-  pub counts : cycles ≡ countsSince begun line
+  pub counts : cycles ≡ countsSince begun more
 
 -- what `whole` tells: no line since the start landed in the picture area; the cycles are the total of the start's registers; and after the line
 -- the area is the picture afresh, and the checksum is of its plate, from the image lent at the start and the registers that the start said
 pub record WholeTold (rom : List ℕ) (w : World) (lines : List (List ℕ)) (line : List ℕ) (serial cycles plate : ℕ) : Type 0 where
-  pub from : Started rom w lines line serial cycles
+  pub from : Started rom w lines (line ∷ []) serial cycles
   pub alone : AreaLeft (found (sessionAfter (from .begun))) (callsOf rom (sessionAfter (from .begun)) (from .begun .since))
   pub total : cycles ≡ totalOf (from .begun .registers)
   pub picture : areaOf (leftBy rom w (lines ++ (line ∷ [])) .world .ram) ≡ afresh (sessionBefore (from .begun) .image) (from .begun .registers)
   pub of-area : plate ≡ crcOf (plateOf (leftBy rom w (lines ++ (line ∷ [])) .world .ram))
   pub of-picture : plate ≡ crcOf (plateAfresh (litOf (sessionBefore (from .begun) .image) (settingOf (from .begun .registers))) (from .begun .registers))
+
+-- a line among those since the start that landed in the picture area, and where
+pub record Landing (rom : List ℕ) (w : World) (lines : List (List ℕ)) (serial : ℕ) (s : Begun rom w lines serial) : Type 0 where
+  pub earlier : List (List ℕ)
+  pub line : List ℕ
+  pub later : List (List ℕ)
+  pub among : s .since ≡ earlier ++ (line ∷ later)
+  pub place : ℕ
+  pub inside : inArea place ≡ true
+  pub lands : landsSeen (found (leftBy rom w (s .before ++ (s .line ∷ earlier)) .world))
+      (callOf rom (leftBy rom w (s .before ++ (s .line ∷ earlier)) .world .image) (frameOf line)) place ≡ true
+
+-- what `touched` tells: a line since the start landed in the picture area; the cycles are the total of the start's registers, and the checksum is of
+-- the plate after the line
+pub record TouchedTold (rom : List ℕ) (w : World) (lines : List (List ℕ)) (line : List ℕ) (serial cycles plate : ℕ) : Type 0 where
+  pub from : Started rom w lines (line ∷ []) serial cycles
+  pub landing : Landing rom w lines serial (from .begun)
+  pub total : cycles ≡ totalOf (from .begun .registers)
+  pub of-area : plate ≡ crcOf (plateOf (leftBy rom w (lines ++ (line ∷ [])) .world .ram))
