@@ -2,3 +2,4 @@
 pub mod Sessions
 pub mod Writes
 pub mod Told
+pub mod Worked

@@ -101,7 +101,7 @@ module _ {ram store : List ℕ} {calls : List Call} (s : Start ram store calls) 
       sym (ap (λ (w : Found). w .state .taken) (after-append (s .before) (startOf s ∷ []) (fresh ram store))) ∙ own-seen first .taken
 
   -- the cycles with those of one call more
-  same-cycles : (k : Call) → cyclesOf (after (fresh ram store) calls) k ≡ countsOf s k
+  pub same-cycles : (k : Call) → cyclesOf (after (fresh ram store) calls) k ≡ countsOf s k
   same-cycles k =
       let w = after (worldBefore s) (startOf s ∷ s .since) in
       let e : after (fresh ram store) calls ≡ w = ap (after (fresh ram store)) (s .whole) ∙ after-append (s .before) (startOf s ∷ s .since) (fresh ram store) in
@@ -415,7 +415,7 @@ module _ (rom ram store image : List ℕ) where
       since-same = ap (λ (w : World). callsOf rom w (c .since)) (world-more rom w₀ newBook (c .before) (c .line)) ∙ c .rest
 
       -- the start's line
-      the-begun : Begun rom w₀ lines (leftBy rom w₀ lines .world .state .started)
+      pub the-begun : Begun rom w₀ lines (leftBy rom w₀ lines .world .state .started)
       the-begun =
           let w = leftBy rom w₀ (c .before) .world in
           let b = leftBy rom w₀ (c .before) .book in
@@ -440,6 +440,11 @@ module _ (rom ram store image : List ℕ) where
       registers-then : the-begun .registers ≡ registersOf s
       unfolding the-begun
       registers-then = ap (λ (x : Found). x .state .taken) (λ i. leaves (before-same i) (c .here i)) ∙ taken-then s
+
+      -- none landed in the area, seen of the calls and of the lines
+      pub left-since : AreaLeft (worldAfter s) (s .since) → AreaLeft (found (sessionAfter the-begun)) (callsOf rom (sessionAfter the-begun) (the-begun .since))
+      unfolding the-begun
+      left-since left p inside = (λ i. landedSeen p (after-same i) (since-same i)) ∙ left p inside
 
       started-with : (more : List (List ℕ)) (cycles : ℕ) → cycles ≡ countsSince the-begun more → Started rom w₀ lines more (leftBy rom w₀ lines .world .state .started) cycles
       unfolding the-begun

@@ -1,3 +1,4 @@
--- What an audit says, as statements: a recording as a history, and what its events tell.
+-- What an audit says, as statements: a recording as a history, what its events tell, and a recording in pieces.
 pub mod Sessions
 pub mod Told
+pub mod Loop
