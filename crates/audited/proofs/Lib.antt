@@ -3,3 +3,5 @@ pub mod Sessions
 pub mod Writes
 pub mod Told
 pub mod Worked
+pub mod Alike
+pub mod Loop
