@@ -2,11 +2,11 @@
 use mathlib.Core.Path.{_≡_, refl, sym, ap, subst, _∙_}
 use mathlib.Core.Bool.{Bool, true, false, not, _&&_}
 use mathlib.Core.List.{List, [], _∷_, _++_, append-assoc, append-nil, head-eq-of-cons-eq, tail-eq-of-cons-eq}
-use Prim.Native.Nat.{ℕ, suc, _+_, _%_}
+use Prim.Native.Nat.{ℕ, suc, _+_, _%_, _≤_}
 use native.Mathlib.Nat.{add-zero}
 use native.Mathlib.Omega.{arith}
 use lib.Dec.{eqb}
-use lib.ListN.{length, set}
+use lib.ListN.{length, set, length-append}
 use borrow.Author.Tests.{eqb-true, eqb-false, eq-eqb}
 use Rattle.laws.specs.Pick.{pick}
 use Rattle.laws.proofs.Bools.{either, not-both, both-left, both-right, both-hold}
@@ -31,12 +31,13 @@ use Rattle.lines.specs.Line.{frameOf}
 use Rattle.session.specs.Answer.{numberSaid}
 use Rattle.session.specs.Session.{World, stepOf}
 use Rattle.audit.specs.Book.{noted, newBook, writes, first, last, row}
+use Rattle.audit.specs.Book as book
 use Rattle.audit.specs.Event.{Event, none, start, stop, resume, dropped, landed, whole, touched, found, callOf, stopSeen, resumeSeen, dropSeen, placeOf, writeSeen, cyclesOf, endOf, seenOf}
 use Rattle.audit.specs.Line.{lineCounted, eventCounted, auditOf, auditAll}
 use Rattle.audited.specs.Sessions.{callsOf, atReset, leftBy, nextEvent}
-use Rattle.audited.specs.Told.{Begun, sessionBefore, sessionAfter, countsSince, OneBegun, Started, WholeTold, Landing, TouchedTold}
+use Rattle.audited.specs.Told.{Begun, sessionBefore, sessionAfter, countsSince, OneBegun, Started, WholeTold, Landing, FirstLanding, LastLanding, TouchedTold}
 use Rattle.audited.proofs.Sessions.{line-found, audit-found, world-append, world-more, book-append, book-more, calls-append, calls-more, Cut, cut, write-is, lines-bytes}
-use Rattle.audited.proofs.Writes.{Long, long-line, long-all, no-reset, none-landed, left-none, some-landed, start-none}
+use Rattle.audited.proofs.Writes.{Long, long-line, long-all, no-reset, none-landed, left-none, Found-landing, First, first-landed, Last, some-last, all-lines, start-none}
 
 -- ---- the serial stays while a capture is held
 
@@ -221,20 +222,22 @@ module _ (book image : List ℕ) (w : Found) (k : Call) where
       (λ e. absurd (omega (arith, ap kindOf e)))
 
   -- an end that is touched
-  record IsTouched (s c p : ℕ) : Type 0 where
+  record IsTouched (s c p f t : ℕ) : Type 0 where
     pub over : endSeen w k ≡ true
     pub some : noted book writes ≡ 0 → ⊥
     pub serial : w .state .started ≡ s
     pub cycles : cyclesOf w k ≡ c
     pub plate : crcOf (plateOf (leaves w k .ram)) ≡ p
+    pub firstly : noted book first ≡ f
+    pub lastly : noted book last ≡ t
 
-  is-touched : (s c p n f t : ℕ) → seenOf book image w k ≡ touched s c p n f t → IsTouched s c p
+  is-touched : (s c p n f t : ℕ) → seenOf book image w k ≡ touched s c p n f t → IsTouched s c p f t
   unfolding kindOf numbersOf endOf
   is-touched s c p n f t =
-      seen-cases book image w k (λ (x : Event). x ≡ touched s c p n f t → IsTouched s c p)
+      seen-cases book image w k (λ (x : Event). x ≡ touched s c p n f t → IsTouched s c p f t)
       (λ _ e. absurd (omega (arith, ap kindOf e)))
       (λ h.
-      pick-ind (λ (x : Event). x ≡ touched s c p n f t → IsTouched s c p) (eqb (noted book writes) 0)
+      pick-ind (λ (x : Event). x ≡ touched s c p n f t → IsTouched s c p f t) (eqb (noted book writes) 0)
       (λ _ e. absurd (omega (arith, ap kindOf e)))
       (λ z e.
       let g = ap numbersOf e in
@@ -244,6 +247,8 @@ module _ (book image : List ℕ) (w : Found) (k : Call) where
         serial = ap (λ (x : Numbers). x .serial) g;
         cycles = ap (λ (x : Numbers). x .cycles) g;
         plate = ap (λ (x : Numbers). x .plate) g;
+        firstly = ap (λ (x : Numbers). x .first) g;
+        lastly = ap (λ (x : Numbers). x .last) g;
       }))
       (λ _ e. absurd (omega (arith, ap kindOf e)))
       (λ _ e. absurd (omega (arith, ap kindOf e)))
@@ -536,16 +541,24 @@ module _ (rom ram store image : List ℕ) where
           long-then = long-all rom (c .before ++ (c .line ∷ [])) w₀ newBook refl
 
           module _ (some : noted (leftBy rom w₀ lines .book) writes ≡ 0 → ⊥) where
-            the-landing : Landing rom w₀ lines (leftBy rom w₀ lines .world .state .started) the-begun
+            abbrev begun-book : List ℕ
+            begun-book = leftBy rom w₀ (c .before ++ (c .line ∷ [])) .book
+
+            -- the session after the start's line and some lines more
+            more-then : (ls : List (List ℕ)) → auditAll rom (sessionAfter the-begun) begun-book ls .world ≡ leftBy rom w₀ (c .before ++ (c .line ∷ ls)) .world
             unfolding the-begun
-            the-landing =
-                let w = sessionAfter the-begun in
-                let b = leftBy rom w₀ (c .before ++ (c .line ∷ [])) .book in
-                let f = some-landed rom (c .since) w b long-then (the-begun .through) begun-none (λ z. some (ap (λ (x : List ℕ). noted x writes) (sym book-then) ∙ z)) in
-                let e : auditAll rom w b (f .earlier) .world ≡ leftBy rom w₀ (c .before ++ (c .line ∷ f .earlier)) .world =
+            more-then ls =
                 sym
-                (ap (λ (ls : List (List ℕ)). leftBy rom w₀ ls .world) (sym (append-assoc (c .before) (c .line ∷ []) (f .earlier)))
-                ∙ world-append rom (c .before ++ (c .line ∷ [])) w₀ newBook (f .earlier)) in
+                (ap (λ (xs : List (List ℕ)). leftBy rom w₀ xs .world) (sym (append-assoc (c .before) (c .line ∷ []) ls))
+                ∙ world-append rom (c .before ++ (c .line ∷ [])) w₀ newBook ls)
+
+            some-then : noted (auditAll rom (sessionAfter the-begun) begun-book (c .since) .book) writes ≡ 0 → ⊥
+            some-then z = some (ap (λ (x : List ℕ). noted x writes) (sym book-then) ∙ z)
+
+            of-landing : Found-landing rom (sessionAfter the-begun) begun-book (c .since) → Landing rom w₀ lines (leftBy rom w₀ lines .world .state .started) the-begun
+            unfolding the-begun
+            of-landing f =
+                let e = more-then (f .earlier) in
                 record {
                   earlier = f .earlier;
                   line = f .line;
@@ -556,10 +569,63 @@ module _ (rom ram store image : List ℕ) where
                   lands = sym (λ i. landsSeen (found (e i)) (callOf rom (e i .image) (frameOf (f .line))) (f .at)) ∙ f .lands;
                 }
 
+            the-first : First rom (sessionAfter the-begun) begun-book (c .since) (noted (auditAll rom (sessionAfter the-begun) begun-book (c .since) .book) first)
+            unfolding the-begun
+            the-first = first-landed rom (c .since) (sessionAfter the-begun) begun-book long-then (the-begun .through) begun-none some-then
+
+            the-final : Last rom (sessionAfter the-begun) begun-book (c .since) (noted (auditAll rom (sessionAfter the-begun) begun-book (c .since) .book) last)
+            unfolding the-begun
+            the-final = some-last rom (c .since) (sessionAfter the-begun) begun-book long-then (the-begun .through) begun-none some-then
+
+            -- how many lines there are
+            module _ (most : length lines ≤ 0xFFFFFFFFFFFFFFFF) where
+              all-length : length lines ≡ length (c .before) + 1 + length (c .since)
+              all-length = ap length (c .whole) ∙ length-append (c .before) (c .line ∷ c .since) ∙ omega arith
+
+              begun-lines : noted begun-book book.lines ≡ length (c .before) + 1
+              begun-lines =
+                  let n : length (c .before ++ (c .line ∷ [])) ≡ length (c .before) + 1 = length-append (c .before) (c .line ∷ []) in
+                  all-lines rom (c .before ++ (c .line ∷ [])) w₀ newBook refl (omega (arith, n, all-length)) ∙ omega (arith, n)
+
+              number-then : (f : Found-landing rom (sessionAfter the-begun) begun-book (c .since)) (n : ℕ)
+                  → (noted begun-book book.lines + length (c .since) ≤ 0xFFFFFFFFFFFFFFFF → n ≡ noted begun-book book.lines + length (f .earlier) + 1)
+                  → length (c .before ++ (c .line ∷ (f .earlier ++ (f .line ∷ [])))) ≡ n
+              number-then f n e =
+                  let g = e (omega (arith, begun-lines, all-length)) in
+                  let a = length-append (c .before) (c .line ∷ (f .earlier ++ (f .line ∷ []))) in
+                  let d = length-append (f .earlier) (f .line ∷ []) in
+                  omega (arith, g, a, d, begun-lines)
+
+              first-then : FirstLanding rom w₀ lines (leftBy rom w₀ lines .world .state .started) the-begun (noted (leftBy rom w₀ lines .book) first)
+              unfolding the-begun of-landing
+              first-then = record {
+                landing = of-landing (the-first .landing);
+                left = the-first .left;
+                number = number-then (the-first .landing) _ (the-first .number) ∙ ap (λ (x : List ℕ). noted x first) book-then;
+              }
+
+              last-then : LastLanding rom w₀ lines (leftBy rom w₀ lines .world .state .started) the-begun (noted (leftBy rom w₀ lines .book) last)
+              unfolding the-begun of-landing
+              last-then =
+                  let f = the-final .landing in
+                  record {
+                    landing = of-landing f;
+                    left =
+                        subst (λ (w : World). AreaLeft (found w) (callsOf rom w (f .later))) (more-then (f .earlier ++ (f .line ∷ []))) (the-final .left);
+                    number = number-then f _ (the-final .number) ∙ ap (λ (x : List ℕ). noted x last) book-then;
+                  }
+
             the-touched : TouchedTold rom w₀ lines line (leftBy rom w₀ lines .world .state .started) (cyclesOf (found (leftBy rom w₀ lines .world)) k)
-                (crcOf (plateOf (leaves (found (leftBy rom w₀ lines .world)) k .ram)))
+                (crcOf (plateOf (leaves (found (leftBy rom w₀ lines .world)) k .ram))) (noted (leftBy rom w₀ lines .book) first) (noted (leftBy rom w₀ lines .book) last)
             unfolding the-started started-with
-            the-touched = record { from = the-started; landing = the-landing; total = total-then; of-area = ap (λ (r : List ℕ). crcOf (plateOf r)) ram-now }
+            the-touched = record {
+              from = the-started;
+              landing = of-landing (the-first .landing);
+              firstly = first-then;
+              lastly = last-then;
+              total = total-then;
+              of-area = ap (λ (r : List ℕ). crcOf (plateOf r)) ram-now;
+            }
 
           -- none landed in the area
           none-then : AreaLeft (found (sessionAfter the-begun)) (callsOf rom (sessionAfter the-begun) (the-begun .since)) → noted (leftBy rom w₀ lines .book) writes ≡ 0
@@ -625,16 +691,21 @@ module _ (rom ram store image : List ℕ) (lines : List (List ℕ)) (line : List
       (subst (λ (n : ℕ). WholeTold rom (atReset ram store image) lines line (here .state .started) (cyclesOf (found here) call) n) (is .plate)
       (the-whole rom ram store image lines s line (is .over) bytes (is .none))))
 
-  -- Touched: and if it is `touched`, some line since its start landed in the area
+  -- Touched: and if it is `touched`, some line since its start landed in the area, the first and the last that did with these numbers
   pub touched-told : (serial cycles plate writes first last : ℕ) → nextEvent rom (atReset ram store image) lines line ≡ touched serial cycles plate writes first last
-      → TouchedTold rom (atReset ram store image) lines line serial cycles plate
+      → TouchedTold rom (atReset ram store image) lines line serial cycles plate first last
   touched-told serial cycles plate writes first last e =
-      let is = is-touched (leftBy rom (atReset ram store image) lines .book) (here .image) (found here) call serial cycles plate writes first last e in
+      let w₀ = atReset ram store image in
+      let is = is-touched (leftBy rom w₀ lines .book) (here .image) (found here) call serial cycles plate writes first last e in
       let s = the-start (end-held (found here) call (is .over)) in
-      subst (λ (n : ℕ). TouchedTold rom (atReset ram store image) lines line n cycles plate) (is .serial)
-      (subst (λ (n : ℕ). TouchedTold rom (atReset ram store image) lines line (here .state .started) n plate) (is .cycles)
-      (subst (λ (n : ℕ). TouchedTold rom (atReset ram store image) lines line (here .state .started) (cyclesOf (found here) call) n) (is .plate)
-      (the-touched rom ram store image lines s line (is .over) (is .some))))
+      let f = noted (leftBy rom w₀ lines .book) book.first in
+      let t = noted (leftBy rom w₀ lines .book) book.last in
+      subst (λ (n : ℕ). TouchedTold rom w₀ lines line serial cycles plate first n) (is .lastly)
+      (subst (λ (n : ℕ). TouchedTold rom w₀ lines line serial cycles plate n t) (is .firstly)
+      (subst (λ (n : ℕ). TouchedTold rom w₀ lines line n cycles plate f t) (is .serial)
+      (subst (λ (n : ℕ). TouchedTold rom w₀ lines line (here .state .started) n plate f t) (is .cycles)
+      (subst (λ (n : ℕ). TouchedTold rom w₀ lines line (here .state .started) (cyclesOf (found here) call) n f t) (is .plate)
+      (the-touched rom ram store image lines s line (is .over) (is .some))))))
 
   -- Whole said: an end since whose start no line landed in the area is said to be whole
   pub whole-said : (s : Begun rom (atReset ram store image) lines (here .state .started)) → AreaLeft (found (sessionAfter s)) (callsOf rom (sessionAfter s) (s .since))

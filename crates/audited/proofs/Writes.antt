@@ -2,12 +2,12 @@
 use mathlib.Core.Path.{_≡_, refl, sym, ap, subst, _∙_}
 use mathlib.Core.Bool.{Bool, true, false, not, _&&_, _||_, and-false}
 use mathlib.Core.List.{List, [], _∷_, _++_}
-use Prim.Native.Nat.{ℕ, _+_, _<_}
+use Prim.Native.Nat.{ℕ, _+_, _<_, _≤_}
 use native.Mathlib.Omega.{arith}
 use lib.Dec.{eqb, leb, ltb}
 use lib.ListN.{length, getD, set, length-set}
 use lib.Seq.{getD-set-same, getD-set-other}
-use borrow.Author.Tests.{eqb-true, eqb-false, ltb-false}
+use borrow.Author.Tests.{eqb-true, eqb-false, eq-eqb, ne-eqb, lt-ltb, ltb-false}
 use Rattle.laws.specs.Pick.{pick}
 use Rattle.laws.proofs.Bools.{either, not-both, both-left, both-right, both-hold, neither-left, neither-right}
 use Rattle.laws.proofs.Pick.{pick-ind}
@@ -80,15 +80,6 @@ Same b c = noted c writes ≡ noted b writes
 same-set : (b : List ℕ) (k v : ℕ) → (writes ≡ k → ⊥) → Same b (set b k v)
 same-set b k v h = getD-set-other b k writes v 0 h
 
-line-same : (b : List ℕ) (f : Frame) (n : ℕ) → Same b (lineCounted b f n)
-unfolding lineCounted
-line-same b f n =
-    let m : Same b (more b lines) = same-set b lines _ (λ e. omega arith) in
-    pick-ind (Same b) (isMalformed f) (λ _. same-set (more b lines) book.malformed _ (λ e. omega arith) ∙ m)
-    (λ _.
-    pick-ind (Same b) (not (eqb n 0)) (λ _. same-set (more b lines) book.refused _ (λ e. omega arith) ∙ m)
-    (λ _. pick-ind (Same b) (isRow f) (λ _. same-set (more b lines) row _ (λ e. omega arith) ∙ m) (λ _. m)))
-
 touch-more : (b : List ℕ) → Long b → noted (touchCounted b) writes ≡ oneMore (noted b writes)
 unfolding touchCounted
 touch-more b l =
@@ -97,6 +88,90 @@ touch-more b l =
     let long : Long y = long-set x last _ (long-set b first _ l) in
     getD-set-same y writes (oneMore (noted y writes)) 0 (omega (arith, long))
     ∙ ap oneMore (same-set x last _ (λ e. omega arith) ∙ same-set b first _ (λ e. omega arith))
+
+touch-first : (b : List ℕ) → Long b → noted (touchCounted b) first ≡ pick (eqb (noted b writes) 0) (noted b lines) (noted b first)
+unfolding touchCounted
+touch-first b l =
+    let v = pick (eqb (noted b writes) 0) (noted b lines) (noted b first) in
+    let x = set b first v in
+    let y = set x last (noted b lines) in
+    getD-set-other y writes first (oneMore (noted y writes)) 0 (λ e. omega arith)
+    ∙ getD-set-other x last first (noted b lines) 0 (λ e. omega arith)
+    ∙ getD-set-same b first v 0 (omega (arith, l))
+
+touch-last : (b : List ℕ) → Long b → noted (touchCounted b) last ≡ noted b lines
+unfolding touchCounted
+touch-last b l =
+    let v = pick (eqb (noted b writes) 0) (noted b lines) (noted b first) in
+    let x = set b first v in
+    let y = set x last (noted b lines) in
+    let long : Long x = long-set b first v l in
+    getD-set-other y writes last (oneMore (noted y writes)) 0 (λ e. omega arith) ∙ getD-set-same x last (noted b lines) 0 (omega (arith, long))
+
+-- a line leaves numbers that it does not count
+line-keeps : (b : List ℕ) (f : Frame) (n k : ℕ) → 3 < k → k < 7 → noted (lineCounted b f n) k ≡ noted b k
+unfolding lineCounted
+line-keeps b f n k low high =
+    let keep : (c : List ℕ) (j v : ℕ) → (k ≡ j → ⊥) → noted (set c j v) k ≡ noted c k = λ c j v h. getD-set-other c j k v 0 h in
+    let m : noted (more b lines) k ≡ noted b k = keep b lines _ (λ e. omega arith) in
+    pick-ind (λ (c : List ℕ). noted c k ≡ noted b k) (isMalformed f) (λ _. keep (more b lines) book.malformed _ (λ e. omega arith) ∙ m)
+    (λ _.
+    pick-ind (λ (c : List ℕ). noted c k ≡ noted b k) (not (eqb n 0)) (λ _. keep (more b lines) book.refused _ (λ e. omega arith) ∙ m)
+    (λ _. pick-ind (λ (c : List ℕ). noted c k ≡ noted b k) (isRow f) (λ _. keep (more b lines) row _ (λ e. omega arith) ∙ m) (λ _. m)))
+
+-- the count of lines
+abbrev Lines : List ℕ → List ℕ → Type 0
+Lines b c = noted c lines ≡ noted b lines
+
+lines-set : (b : List ℕ) (k v : ℕ) → (lines ≡ k → ⊥) → Lines b (set b k v)
+lines-set b k v h = getD-set-other b k lines v 0 h
+
+line-lines : (b : List ℕ) (f : Frame) (n : ℕ) → Long b → noted (lineCounted b f n) lines ≡ oneMore (noted b lines)
+unfolding lineCounted
+line-lines b f n l =
+    let P : List ℕ → Type 0 = λ c. noted c lines ≡ oneMore (noted b lines) in
+    let m : P (more b lines) = getD-set-same b lines (oneMore (noted b lines)) 0 (omega (arith, l)) in
+    pick-ind P (isMalformed f) (λ _. lines-set (more b lines) book.malformed _ (λ e. omega arith) ∙ m)
+    (λ _.
+    pick-ind P (not (eqb n 0)) (λ _. lines-set (more b lines) book.refused _ (λ e. omega arith) ∙ m)
+    (λ _. pick-ind P (isRow f) (λ _. lines-set (more b lines) row _ (λ e. omega arith) ∙ m) (λ _. m)))
+
+touch-lines : (b : List ℕ) → Lines b (touchCounted b)
+unfolding touchCounted
+touch-lines b =
+    let x = set b first (pick (eqb (noted b writes) 0) (noted b lines) (noted b first)) in
+    let y = set x last (noted b lines) in
+    lines-set y writes (oneMore (noted y writes)) (λ e. omega arith) ∙ lines-set x last _ (λ e. omega arith) ∙ lines-set b first _ (λ e. omega arith)
+
+event-lines : (b : List ℕ) (e : Event) → Lines b (eventCounted b e)
+unfolding eventCounted
+event-lines b none = refl
+event-lines b (start s i r g) = lines-set (set b writes 0) book.captures _ (λ e. omega arith) ∙ lines-set b writes 0 (λ e. omega arith)
+event-lines b (stop s c) = refl
+event-lines b (resume s c) = refl
+event-lines b (dropped s c) = lines-set b book.dropped _ (λ e. omega arith)
+event-lines b (landed s a v) = pick-ind (Lines b) (inArea a) (λ _. touch-lines b) (λ _. refl)
+event-lines b (whole s c p) = lines-set (more b book.ended) book.whole _ (λ e. omega arith) ∙ lines-set b book.ended _ (λ e. omega arith)
+event-lines b (touched s c p n f t) = lines-set b book.ended _ (λ e. omega arith)
+
+one-more-is : (n : ℕ) → n < 0xFFFFFFFFFFFFFFFF → oneMore n ≡ n + 1
+unfolding oneMore
+one-more-is n h = rw (lt-ltb n 0xFFFFFFFFFFFFFFFF h)
+
+next-lines : (rom : List ℕ) (w : World) (b line : List ℕ) → Long b → noted (auditOf rom w b line .book) lines ≡ oneMore (noted b lines)
+unfolding auditOf
+next-lines rom w b line l =
+    event-lines _ (eventOf rom b w (frameOf line)) ∙ line-lines b (frameOf line) (numberSaid (stepOf rom w line .text)) l
+
+-- Line numbers: each line is counted, as far as 64 bits go
+pub all-lines : (rom : List ℕ) (ls : List (List ℕ)) (w : World) (b : List ℕ) → Long b → noted b lines + length ls ≤ 0xFFFFFFFFFFFFFFFF
+    → noted (auditAll rom w b ls .book) lines ≡ noted b lines + length ls
+unfolding auditAll
+all-lines rom [] w b l h = omega arith
+all-lines rom (line ∷ ls) w b l h =
+    let n : noted (auditOf rom w b line .book) lines ≡ noted b lines + 1 = next-lines rom w b line l ∙ one-more-is (noted b lines) (omega arith) in
+    let r = all-lines rom ls (auditOf rom w b line .world) (auditOf rom w b line .book) (long-next rom w b line l) (omega (arith, n)) in
+    omega (arith, n, r)
 
 -- one more is not none
 pub one-more : (n : ℕ) → oneMore n ≡ 0 → ⊥
@@ -150,31 +225,72 @@ module _ (w : Found) (k : Call) (on : w .state .held ≡ true) (still : leaves w
   unfolding dropSeen
   no-drop = rw (on, no-reset w k still)
 
-  event-writes : (book image b : List ℕ) → Long b → noted (eventCounted b (seenOf book image w k)) writes ≡ pick (touches w k) (oneMore (noted b writes)) (noted b writes)
+  event-book : (book image b : List ℕ) → eventCounted b (seenOf book image w k) ≡ pick (touches w k) (touchCounted b) b
   unfolding seenOf eventCounted touches
-  event-writes book image b l =
+  event-book book image b =
       rw (no-start, no-end, no-drop)
       (either (writeSeen w k)
+      (λ h. rw h)
       (λ h.
       rw h
-      (either (inArea (placeOf w k)) (λ i. rw i (touch-more b l)) (λ i. rw i)))
-      (λ h.
-      rw h
-      (pick-ind (λ (e : Event). noted (eventCounted b e) writes ≡ noted b writes) (stopSeen w k) (λ _. refl)
-      (λ _. pick-ind (λ (e : Event). noted (eventCounted b e) writes ≡ noted b writes) (resumeSeen w k) (λ _. refl) (λ _. refl)))))
+      (pick-ind (λ (e : Event). eventCounted b e ≡ b) (stopSeen w k) (λ _. refl)
+      (λ _. pick-ind (λ (e : Event). eventCounted b e ≡ b) (resumeSeen w k) (λ _. refl) (λ _. refl)))))
 
 module _ (rom : List ℕ) (w : World) (b line : List ℕ) (l : Long b) where
   abbrev k : Call
   k = callOf rom (w .image) (frameOf line)
 
   module _ (on : w .state .held ≡ true) (still : leaves (found w) k .state .held ≡ true) where
+    abbrev counted : List ℕ
+    counted = lineCounted b (frameOf line) (numberSaid (stepOf rom w line .text))
+
+    counted-long : Long counted
+    counted-long = long-line b (frameOf line) (numberSaid (stepOf rom w line .text)) l
+
+    counted-keeps : (j : ℕ) → 3 < j → j < 7 → noted counted j ≡ noted b j
+    counted-keeps = line-keeps b (frameOf line) (numberSaid (stepOf rom w line .text))
+
+    counted-lines : noted counted lines ≡ oneMore (noted b lines)
+    counted-lines = line-lines b (frameOf line) (numberSaid (stepOf rom w line .text)) l
+
+    line-book : auditOf rom w b line .book ≡ pick (touches (found w) k) (touchCounted counted) counted
+    unfolding auditOf
+    line-book = event-book (found w) k on still b (w .image) counted
+
     -- one more where it lands in the area, and else what it was
     pub line-writes : noted (auditOf rom w b line .book) writes ≡ pick (touches (found w) k) (oneMore (noted b writes)) (noted b writes)
-    unfolding auditOf
     line-writes =
-        let c = lineCounted b (frameOf line) (numberSaid (stepOf rom w line .text)) in
-        event-writes (found w) k on still b (w .image) c (long-line b (frameOf line) (numberSaid (stepOf rom w line .text)) l)
-        ∙ ap (λ (n : ℕ). pick (touches (found w) k) (oneMore n) n) (line-same b (frameOf line) (numberSaid (stepOf rom w line .text)))
+        let same : noted counted writes ≡ noted b writes = counted-keeps writes (omega arith) (omega arith) in
+        ap (λ (x : List ℕ). noted x writes) line-book
+        ∙ either (touches (found w) k) (λ t. rw t (touch-more counted counted-long ∙ ap oneMore same)) (λ t. rw t same)
+
+    -- the first line that lands there, and the last
+    line-first : touches (found w) k ≡ true → noted b writes ≡ 0 → noted (auditOf rom w b line .book) first ≡ oneMore (noted b lines)
+    line-first t z =
+        ap (λ (x : List ℕ). noted x first) (line-book ∙ ap (λ (x : Bool). pick x (touchCounted counted) counted) t)
+        ∙ touch-first counted counted-long
+        ∙ ap (λ (x : Bool). pick x (noted counted lines) (noted counted first)) (eq-eqb (noted counted writes) 0 (counted-keeps writes (omega arith) (omega arith) ∙ z))
+        ∙ counted-lines
+
+    line-first-stays : (noted b writes ≡ 0 → ⊥) → noted (auditOf rom w b line .book) first ≡ noted b first
+    line-first-stays some =
+        let same : noted counted first ≡ noted b first = counted-keeps first (omega arith) (omega arith) in
+        ap (λ (x : List ℕ). noted x first) line-book
+        ∙ either (touches (found w) k)
+        (λ t.
+        rw t
+        (touch-first counted counted-long
+        ∙ ap (λ (x : Bool). pick x (noted counted lines) (noted counted first)) (ne-eqb (noted counted writes) 0 (λ z. some (sym (counted-keeps writes (omega arith) (omega arith)) ∙ z)))
+        ∙ same))
+        (λ t. rw t same)
+
+    line-last : touches (found w) k ≡ true → noted (auditOf rom w b line .book) last ≡ oneMore (noted b lines)
+    line-last t =
+        ap (λ (x : List ℕ). noted x last) (line-book ∙ ap (λ (x : Bool). pick x (touchCounted counted) counted) t) ∙ touch-last counted counted-long ∙ counted-lines
+
+    line-last-stays : touches (found w) k ≡ false → noted (auditOf rom w b line .book) last ≡ noted b last
+    line-last-stays t =
+        ap (λ (x : List ℕ). noted x last) (line-book ∙ ap (λ (x : Bool). pick x (touchCounted counted) counted) t) ∙ counted-keeps last (omega arith) (omega arith)
 
     -- none after it: none before it, and it lands nowhere there
     line-none : noted (auditOf rom w b line .book) writes ≡ 0 → (noted b writes ≡ 0) × (touches (found w) k ≡ false)
@@ -251,30 +367,122 @@ pub record Found-landing (rom : List ℕ) (w : World) (b : List ℕ) (lines : Li
   pub inside : inArea at ≡ true
   pub lands : landsSeen (found (auditAll rom w b earlier .world)) (callOf rom (auditAll rom w b earlier .world .image) (frameOf line)) at ≡ true
 
--- Some writes: where the book has some at the end and had none, some landed in the area
-pub some-landed : (rom : List ℕ) (lines : List (List ℕ)) (w : World) (b : List ℕ) → Long b → heldThrough (found w) (callsOf rom w lines) ≡ true
-    → noted b writes ≡ 0 → (noted (auditAll rom w b lines .book) writes ≡ 0 → ⊥) → Found-landing rom w b lines
-unfolding auditAll auditOf touches writeSeen
-some-landed rom [] w b l h z some = absurd (some z)
-some-landed rom (line ∷ rest) w b l h z some =
-    let f = first-held rom w line rest h in
+-- the first of them, of lines that 64 bits can number
+pub record First (rom : List ℕ) (w : World) (b : List ℕ) (ls : List (List ℕ)) (n : ℕ) : Type 0 where
+  pub landing : Found-landing rom w b ls
+  pub left : AreaLeft (found w) (callsOf rom w (landing .earlier))
+  pub number : noted b lines + length ls ≤ 0xFFFFFFFFFFFFFFFF → n ≡ noted b lines + length (landing .earlier) + 1
+
+-- the first line's number stays while there are some
+first-stays : (rom : List ℕ) (ls : List (List ℕ)) (w : World) (b : List ℕ) → Long b → heldThrough (found w) (callsOf rom w ls) ≡ true
+    → (noted b writes ≡ 0 → ⊥) → noted (auditAll rom w b ls .book) first ≡ noted b first
+unfolding auditAll auditOf
+first-stays rom [] w b l h some = refl
+first-stays rom (line ∷ ls) w b l h some =
+    let f = first-held rom w line ls h in
+    let still : noted (auditOf rom w b line .book) writes ≡ 0 → ⊥ = λ z. some (line-none rom w b line l (f .0) (f .1) z .0) in
+    first-stays rom ls (stepOf rom w line .world) (auditOf rom w b line .book) (long-next rom w b line l) (f .2) still ∙ line-first-stays rom w b line l (f .0) (f .1) some
+
+-- a line that lands in the area, before others
+lands-here : (rom : List ℕ) (w : World) (b line : List ℕ) (ls : List (List ℕ)) → touches (found w) (callOf rom (w .image) (frameOf line)) ≡ true → Found-landing rom w b (line ∷ ls)
+unfolding auditAll touches writeSeen
+lands-here rom w b line ls t =
     let k = callOf rom (w .image) (frameOf line) in
-    let b′ = auditOf rom w b line .book in
-    either (eqb (noted b′ writes) 0)
-    (λ e.
-    let r = some-landed rom rest (stepOf rom w line .world) b′ (long-next rom w b line l) (f .2) (eqb-true _ 0 e) some in
-    record { earlier = line ∷ r .earlier; line = r .line; later = r .later; among = (λ i. line ∷ r .among i); at = r .at; inside = r .inside; lands = r .lands })
-    (λ e.
-    let t = line-some rom w b line l (f .0) (f .1) (λ y. eqb-false _ 0 e y) z in
+    let at = placeOf (found w) k in
     record {
       earlier = [];
       line = line;
-      later = rest;
+      later = ls;
       among = refl;
-      at = placeOf (found w) k;
-      inside = both-right (w .state .held && landsSeen (found w) k (placeOf (found w) k)) (inArea (placeOf (found w) k)) t;
-      lands = both-right (w .state .held) _ (both-left (w .state .held && landsSeen (found w) k (placeOf (found w) k)) (inArea (placeOf (found w) k)) t);
+      at = at;
+      inside = both-right (w .state .held && landsSeen (found w) k at) (inArea at) t;
+      lands = both-right (w .state .held) (landsSeen (found w) k at) (both-left (w .state .held && landsSeen (found w) k at) (inArea at) t);
+    }
+
+-- one after a line
+lands-later : (rom : List ℕ) (w : World) (b line : List ℕ) (ls : List (List ℕ)) → Found-landing rom (stepOf rom w line .world) (auditOf rom w b line .book) ls → Found-landing rom w b (line ∷ ls)
+unfolding auditAll auditOf
+lands-later rom w b line ls r =
+    record { earlier = line ∷ r .earlier; line = r .line; later = r .later; among = (λ i. line ∷ r .among i); at = r .at; inside = r .inside; lands = r .lands }
+
+-- none landed in the area in a line, nor in lines after it
+area-more : (rom : List ℕ) (w : World) (b line : List ℕ) (ls : List (List ℕ)) → Long b → w .state .held ≡ true → leaves (found w) (callOf rom (w .image) (frameOf line)) .state .held ≡ true
+    → touches (found w) (callOf rom (w .image) (frameOf line)) ≡ false
+    → AreaLeft (found (stepOf rom w line .world)) (callsOf rom (stepOf rom w line .world) ls) → AreaLeft (found w) (callsOf rom w (line ∷ ls))
+unfolding callsOf landedSeen
+area-more rom w b line ls l on still t left p here = rw (lands-nowhere rom w b line l on still t p here, ← line-found rom w line, left p here)
+
+-- Some writes: where the book has some at the end and had none, some landed in the area, and it has the number of the first line that did
+pub first-landed : (rom : List ℕ) (ls : List (List ℕ)) (w : World) (b : List ℕ) → Long b → heldThrough (found w) (callsOf rom w ls) ≡ true
+    → noted b writes ≡ 0 → (noted (auditAll rom w b ls .book) writes ≡ 0 → ⊥) → First rom w b ls (noted (auditAll rom w b ls .book) first)
+unfolding auditAll auditOf callsOf landedSeen lands-here lands-later
+first-landed rom [] w b l h z some = absurd (some z)
+first-landed rom (line ∷ ls) w b l h z some =
+    let f = first-held rom w line ls h in
+    let k = callOf rom (w .image) (frameOf line) in
+    let w′ = stepOf rom w line .world in
+    let b′ = auditOf rom w b line .book in
+    let long = long-next rom w b line l in
+    either (touches (found w) k)
+    (λ t.
+    let now : noted b′ writes ≡ 0 → ⊥ = λ y. not-both t (line-none rom w b line l (f .0) (f .1) y .1) in
+    record {
+      landing = lands-here rom w b line ls t;
+      left = λ p here. refl;
+      number = λ most. first-stays rom ls w′ b′ long (f .2) now ∙ line-first rom w b line l (f .0) (f .1) t z ∙ one-more-is (noted b lines) (omega arith) ∙ omega arith;
     })
+    (λ t.
+    let none : noted b′ writes ≡ 0 = (rw t at (line-writes rom w b line l (f .0) (f .1))) ∙ z in
+    let r = first-landed rom ls w′ b′ long (f .2) none some in
+    record {
+      landing = lands-later rom w b line ls (r .landing);
+      left = area-more rom w b line (r .landing .earlier) l (f .0) (f .1) t (r .left);
+      number = λ most.
+          let n : noted b′ lines ≡ noted b lines + 1 = next-lines rom w b line l ∙ one-more-is (noted b lines) (omega arith) in
+          r .number (omega (arith, n)) ∙ omega (arith, n);
+    })
+
+-- the last of them
+pub record Last (rom : List ℕ) (w : World) (b : List ℕ) (ls : List (List ℕ)) (n : ℕ) : Type 0 where
+  pub landing : Found-landing rom w b ls
+  pub left : AreaLeft (found (auditAll rom w b (landing .earlier ++ (landing .line ∷ [])) .world)) (callsOf rom (auditAll rom w b (landing .earlier ++ (landing .line ∷ [])) .world) (landing .later))
+  pub number : noted b lines + length ls ≤ 0xFFFFFFFFFFFFFFFF → n ≡ noted b lines + length (landing .earlier) + 1
+
+-- Last line: some landed, and the book has the number of the last line that did; or none did, and it has what it had
+last-landed : {X : Type 0} (rom : List ℕ) (ls : List (List ℕ)) (w : World) (b : List ℕ) → Long b → heldThrough (found w) (callsOf rom w ls) ≡ true
+    → (AreaLeft (found w) (callsOf rom w ls) → noted (auditAll rom w b ls .book) last ≡ noted b last → X)
+    → (Last rom w b ls (noted (auditAll rom w b ls .book) last) → X) → X
+unfolding auditAll auditOf callsOf landedSeen lands-here lands-later
+last-landed rom [] w b l h clear some = clear (λ p here. refl) refl
+last-landed rom (line ∷ ls) w b l h clear some =
+    let f = first-held rom w line ls h in
+    let k = callOf rom (w .image) (frameOf line) in
+    let w′ = stepOf rom w line .world in
+    let b′ = auditOf rom w b line .book in
+    last-landed rom ls w′ b′ (long-next rom w b line l) (f .2)
+    (λ left e.
+    either (touches (found w) k)
+    (λ t.
+    some
+    (record {
+      landing = lands-here rom w b line ls t;
+      left = left;
+      number = λ most. e ∙ line-last rom w b line l (f .0) (f .1) t ∙ one-more-is (noted b lines) (omega arith) ∙ omega arith;
+    }))
+    (λ t. clear (area-more rom w b line ls l (f .0) (f .1) t left) (e ∙ line-last-stays rom w b line l (f .0) (f .1) t)))
+    (λ r.
+    some
+    (record {
+      landing = lands-later rom w b line ls (r .landing);
+      left = r .left;
+      number = λ most.
+          let n : noted b′ lines ≡ noted b lines + 1 = next-lines rom w b line l ∙ one-more-is (noted b lines) (omega arith) in
+          r .number (omega (arith, n)) ∙ omega (arith, n);
+    }))
+
+pub some-last : (rom : List ℕ) (ls : List (List ℕ)) (w : World) (b : List ℕ) → Long b → heldThrough (found w) (callsOf rom w ls) ≡ true
+    → noted b writes ≡ 0 → (noted (auditAll rom w b ls .book) writes ≡ 0 → ⊥) → Last rom w b ls (noted (auditAll rom w b ls .book) last)
+some-last rom ls w b l h z some = last-landed rom ls w b l h (λ left e. absurd (some (left-none rom ls w b l h left z))) (λ r. r)
 
 -- a start has none
 pub start-none : (b : List ℕ) (s i r : ℕ) (g : List ℕ) → Long b → noted (eventCounted b (start s i r g)) writes ≡ 0

@@ -2,8 +2,8 @@
 use mathlib.Core.Path.{_≡_}
 use mathlib.Core.Bool.{true}
 use mathlib.Core.List.{List, [], _∷_, _++_}
-use Prim.Native.Nat.{ℕ, _%_}
-use lib.ListN.{set}
+use Prim.Native.Nat.{ℕ, _%_, _≤_}
+use lib.ListN.{length, set}
 use Rattle.crc.specs.Crc.{crcOf}
 use Rattle.timing.specs.Timing.{totalOf}
 use Rattle.lighting.specs.Taken.{settingOf}
@@ -80,10 +80,29 @@ pub record Landing (rom : List ℕ) (w : World) (lines : List (List ℕ)) (seria
   pub lands : landsSeen (found (leftBy rom w (s .before ++ (s .line ∷ earlier)) .world))
       (callOf rom (leftBy rom w (s .before ++ (s .line ∷ earlier)) .world .image) (frameOf line)) place ≡ true
 
--- what `touched` tells: a line since the start landed in the picture area; the cycles are the total of the start's registers, and the checksum is of
--- the plate after the line
-pub record TouchedTold (rom : List ℕ) (w : World) (lines : List (List ℕ)) (line : List ℕ) (serial cycles plate : ℕ) : Type 0 where
+-- its line's number, as an audit numbers lines
+abbrev pub numberOf : {rom : List ℕ} {w : World} {lines : List (List ℕ)} {serial : ℕ} {s : Begun rom w lines serial} → Landing rom w lines serial s → ℕ
+numberOf {s = s} l = length (s .before ++ (s .line ∷ (l .earlier ++ (l .line ∷ []))))
+
+-- the first of them: no line since the start landed in the area before it
+pub record FirstLanding (rom : List ℕ) (w : World) (lines : List (List ℕ)) (serial : ℕ) (s : Begun rom w lines serial) (n : ℕ) : Type 0 where
+  pub landing : Landing rom w lines serial s
+  pub left : AreaLeft (found (sessionAfter s)) (callsOf rom (sessionAfter s) (landing .earlier))
+  pub number : numberOf landing ≡ n
+
+-- the last: none after it
+pub record LastLanding (rom : List ℕ) (w : World) (lines : List (List ℕ)) (serial : ℕ) (s : Begun rom w lines serial) (n : ℕ) : Type 0 where
+  pub landing : Landing rom w lines serial s
+  pub left : AreaLeft (found (leftBy rom w (s .before ++ (s .line ∷ (landing .earlier ++ (landing .line ∷ [])))) .world))
+      (callsOf rom (leftBy rom w (s .before ++ (s .line ∷ (landing .earlier ++ (landing .line ∷ [])))) .world) (landing .later))
+  pub number : numberOf landing ≡ n
+
+-- what `touched` tells: a line since the start landed in the picture area; of lines that 64 bits can number, the first and the last that did have these
+-- numbers; the cycles are the total of the start's registers, and the checksum is of the plate after the line
+pub record TouchedTold (rom : List ℕ) (w : World) (lines : List (List ℕ)) (line : List ℕ) (serial cycles plate first last : ℕ) : Type 0 where
   pub from : Started rom w lines (line ∷ []) serial cycles
   pub landing : Landing rom w lines serial (from .begun)
+  pub firstly : length lines ≤ 0xFFFFFFFFFFFFFFFF → FirstLanding rom w lines serial (from .begun) first
+  pub lastly : length lines ≤ 0xFFFFFFFFFFFFFFFF → LastLanding rom w lines serial (from .begun) last
   pub total : cycles ≡ totalOf (from .begun .registers)
   pub of-area : plate ≡ crcOf (plateOf (leftBy rom w (lines ++ (line ∷ [])) .world .ram))
