@@ -3,7 +3,7 @@ use mathlib.Core.Path.{_≡_, refl, sym, ap, subst, _∙_}
 use mathlib.Core.Bool.{Bool, true, false, not, _&&_}
 use mathlib.Core.List.{List, [], _∷_, _++_, append-assoc, append-nil, head-eq-of-cons-eq, tail-eq-of-cons-eq}
 use Prim.Native.Nat.{ℕ, suc, _+_, _%_, _≤_}
-use native.Mathlib.Nat.{add-zero}
+use native.Mathlib.Nat.{add-zero, zero-add}
 use native.Mathlib.Omega.{arith}
 use lib.Dec.{eqb}
 use lib.ListN.{length, set, length-append}
@@ -35,9 +35,9 @@ use Rattle.audit.specs.Book as book
 use Rattle.audit.specs.Event.{Event, none, start, stop, resume, dropped, landed, whole, touched, found, callOf, stopSeen, resumeSeen, dropSeen, placeOf, writeSeen, cyclesOf, endOf, seenOf}
 use Rattle.audit.specs.Line.{lineCounted, eventCounted, auditOf, auditAll}
 use Rattle.audited.specs.Sessions.{callsOf, atReset, leftBy, nextEvent}
-use Rattle.audited.specs.Told.{Begun, sessionBefore, sessionAfter, countsSince, OneBegun, Started, WholeTold, Landing, FirstLanding, LastLanding, TouchedTold}
+use Rattle.audited.specs.Told.{Begun, sessionBefore, sessionAfter, countsSince, OneBegun, Started, WholeTold, LandedTold, Landing, FirstLanding, LastLanding, landings, TouchedTold}
 use Rattle.audited.proofs.Sessions.{line-found, audit-found, world-append, world-more, book-append, book-more, calls-append, calls-more, Cut, cut, write-is, lines-bytes}
-use Rattle.audited.proofs.Writes.{Long, long-line, long-all, no-reset, none-landed, left-none, Found-landing, First, first-landed, Last, some-last, all-lines, start-none}
+use Rattle.audited.proofs.Writes.{Long, long-line, long-all, no-reset, none-landed, left-none, Found-landing, First, first-landed, Last, some-last, all-lines, writes-counted, start-none, lands-write}
 
 -- ---- the serial stays while a capture is held
 
@@ -153,7 +153,7 @@ numbersOf (start s i r g) = numbers s 0 0 0 0 0
 numbersOf (stop s c) = numbers s c 0 0 0 0
 numbersOf (resume s c) = numbers s c 0 0 0 0
 numbersOf (dropped s c) = numbers s c 0 0 0 0
-numbersOf (landed s a v) = numbers s 0 0 0 0 0
+numbersOf (landed s a v) = numbers s a v 0 0 0
 numbersOf (whole s c p) = numbers s c p 0 0 0
 numbersOf (touched s c p n f t) = numbers s c p n f t
 
@@ -222,22 +222,23 @@ module _ (book image : List ℕ) (w : Found) (k : Call) where
       (λ e. absurd (omega (arith, ap kindOf e)))
 
   -- an end that is touched
-  record IsTouched (s c p f t : ℕ) : Type 0 where
+  record IsTouched (s c p n f t : ℕ) : Type 0 where
     pub over : endSeen w k ≡ true
     pub some : noted book writes ≡ 0 → ⊥
     pub serial : w .state .started ≡ s
     pub cycles : cyclesOf w k ≡ c
     pub plate : crcOf (plateOf (leaves w k .ram)) ≡ p
+    pub counts : noted book writes ≡ n
     pub firstly : noted book first ≡ f
     pub lastly : noted book last ≡ t
 
-  is-touched : (s c p n f t : ℕ) → seenOf book image w k ≡ touched s c p n f t → IsTouched s c p f t
+  is-touched : (s c p n f t : ℕ) → seenOf book image w k ≡ touched s c p n f t → IsTouched s c p n f t
   unfolding kindOf numbersOf endOf
   is-touched s c p n f t =
-      seen-cases book image w k (λ (x : Event). x ≡ touched s c p n f t → IsTouched s c p f t)
+      seen-cases book image w k (λ (x : Event). x ≡ touched s c p n f t → IsTouched s c p n f t)
       (λ _ e. absurd (omega (arith, ap kindOf e)))
       (λ h.
-      pick-ind (λ (x : Event). x ≡ touched s c p n f t → IsTouched s c p f t) (eqb (noted book writes) 0)
+      pick-ind (λ (x : Event). x ≡ touched s c p n f t → IsTouched s c p n f t) (eqb (noted book writes) 0)
       (λ _ e. absurd (omega (arith, ap kindOf e)))
       (λ z e.
       let g = ap numbersOf e in
@@ -247,6 +248,7 @@ module _ (book image : List ℕ) (w : Found) (k : Call) where
         serial = ap (λ (x : Numbers). x .serial) g;
         cycles = ap (λ (x : Numbers). x .cycles) g;
         plate = ap (λ (x : Numbers). x .plate) g;
+        counts = ap (λ (x : Numbers). x .writes) g;
         firstly = ap (λ (x : Numbers). x .first) g;
         lastly = ap (λ (x : Numbers). x .last) g;
       }))
@@ -313,6 +315,37 @@ module _ (book image : List ℕ) (w : Found) (k : Call) where
       (λ _ e. absurd (omega (arith, ap kindOf e))))
       (λ h e. is-mark s c _ (both-left (w .state .held) _ h) refl refl (dropped s c) refl refl e)
       (λ _ e. absurd (omega (arith, ap kindOf e)))
+      (λ _ e. absurd (omega (arith, ap kindOf e)))
+      (λ _ e. absurd (omega (arith, ap kindOf e)))
+      (λ e. absurd (omega (arith, ap kindOf e)))
+
+  -- a write that landed
+  record IsLanded (s a v : ℕ) : Type 0 where
+    pub held : w .state .held ≡ true
+    pub lands : landsSeen w k (placeOf w k) ≡ true
+    pub serial : w .state .started ≡ s
+    pub place : placeOf w k ≡ a
+    pub byte : byteIn k (placeOf w k) ≡ v
+
+  is-landed : (s a v : ℕ) → seenOf book image w k ≡ landed s a v → IsLanded s a v
+  unfolding kindOf numbersOf endOf writeSeen
+  is-landed s a v =
+      seen-cases book image w k (λ (x : Event). x ≡ landed s a v → IsLanded s a v)
+      (λ _ e. absurd (omega (arith, ap kindOf e)))
+      (λ _.
+      pick-ind (λ (x : Event). x ≡ landed s a v → IsLanded s a v) (eqb (noted book writes) 0)
+      (λ _ e. absurd (omega (arith, ap kindOf e)))
+      (λ _ e. absurd (omega (arith, ap kindOf e))))
+      (λ _ e. absurd (omega (arith, ap kindOf e)))
+      (λ h e.
+      let n = ap numbersOf e in
+      record {
+        held = both-left (w .state .held) (landsSeen w k (placeOf w k)) h;
+        lands = both-right (w .state .held) (landsSeen w k (placeOf w k)) h;
+        serial = ap (λ (x : Numbers). x .serial) n;
+        place = ap (λ (x : Numbers). x .cycles) n;
+        byte = ap (λ (x : Numbers). x .plate) n;
+      })
       (λ _ e. absurd (omega (arith, ap kindOf e)))
       (λ _ e. absurd (omega (arith, ap kindOf e)))
       (λ e. absurd (omega (arith, ap kindOf e)))
@@ -596,6 +629,14 @@ module _ (rom ram store image : List ℕ) where
                   let d = length-append (f .earlier) (f .line ∷ []) in
                   omega (arith, g, a, d, begun-lines)
 
+              count-then : noted (leftBy rom w₀ lines .book) writes ≡ landings rom (sessionAfter the-begun) (the-begun .since)
+              unfolding the-begun
+              count-then =
+                  ap (λ (x : List ℕ). noted x writes) (sym book-then)
+                  ∙ writes-counted rom (c .since) (sessionAfter the-begun) begun-book long-then (the-begun .through) (omega (arith, begun-none, all-length))
+                  ∙ ap (λ (n : ℕ). n + landings rom (sessionAfter the-begun) (c .since)) begun-none
+                  ∙ zero-add (landings rom (sessionAfter the-begun) (c .since))
+
               first-then : FirstLanding rom w₀ lines (leftBy rom w₀ lines .world .state .started) the-begun (noted (leftBy rom w₀ lines .book) first)
               unfolding the-begun of-landing
               first-then = record {
@@ -616,11 +657,12 @@ module _ (rom ram store image : List ℕ) where
                   }
 
             the-touched : TouchedTold rom w₀ lines line (leftBy rom w₀ lines .world .state .started) (cyclesOf (found (leftBy rom w₀ lines .world)) k)
-                (crcOf (plateOf (leaves (found (leftBy rom w₀ lines .world)) k .ram))) (noted (leftBy rom w₀ lines .book) first) (noted (leftBy rom w₀ lines .book) last)
+                (crcOf (plateOf (leaves (found (leftBy rom w₀ lines .world)) k .ram))) (noted (leftBy rom w₀ lines .book) writes) (noted (leftBy rom w₀ lines .book) first) (noted (leftBy rom w₀ lines .book) last)
             unfolding the-started started-with
             the-touched = record {
               from = the-started;
               landing = of-landing (the-first .landing);
+              count = count-then;
               firstly = first-then;
               lastly = last-then;
               total = total-then;
@@ -693,19 +735,21 @@ module _ (rom ram store image : List ℕ) (lines : List (List ℕ)) (line : List
 
   -- Touched: and if it is `touched`, some line since its start landed in the area, the first and the last that did with these numbers
   pub touched-told : (serial cycles plate writes first last : ℕ) → nextEvent rom (atReset ram store image) lines line ≡ touched serial cycles plate writes first last
-      → TouchedTold rom (atReset ram store image) lines line serial cycles plate first last
+      → TouchedTold rom (atReset ram store image) lines line serial cycles plate writes first last
   touched-told serial cycles plate writes first last e =
       let w₀ = atReset ram store image in
       let is = is-touched (leftBy rom w₀ lines .book) (here .image) (found here) call serial cycles plate writes first last e in
       let s = the-start (end-held (found here) call (is .over)) in
       let f = noted (leftBy rom w₀ lines .book) book.first in
       let t = noted (leftBy rom w₀ lines .book) book.last in
-      subst (λ (n : ℕ). TouchedTold rom w₀ lines line serial cycles plate first n) (is .lastly)
-      (subst (λ (n : ℕ). TouchedTold rom w₀ lines line serial cycles plate n t) (is .firstly)
-      (subst (λ (n : ℕ). TouchedTold rom w₀ lines line n cycles plate f t) (is .serial)
-      (subst (λ (n : ℕ). TouchedTold rom w₀ lines line (here .state .started) n plate f t) (is .cycles)
-      (subst (λ (n : ℕ). TouchedTold rom w₀ lines line (here .state .started) (cyclesOf (found here) call) n f t) (is .plate)
-      (the-touched rom ram store image lines s line (is .over) (is .some))))))
+      let v = noted (leftBy rom w₀ lines .book) book.writes in
+      subst (λ (n : ℕ). TouchedTold rom w₀ lines line serial cycles plate writes first n) (is .lastly)
+      (subst (λ (n : ℕ). TouchedTold rom w₀ lines line serial cycles plate writes n t) (is .firstly)
+      (subst (λ (n : ℕ). TouchedTold rom w₀ lines line serial cycles plate n f t) (is .counts)
+      (subst (λ (n : ℕ). TouchedTold rom w₀ lines line n cycles plate v f t) (is .serial)
+      (subst (λ (n : ℕ). TouchedTold rom w₀ lines line (here .state .started) n plate v f t) (is .cycles)
+      (subst (λ (n : ℕ). TouchedTold rom w₀ lines line (here .state .started) (cyclesOf (found here) call) n v f t) (is .plate)
+      (the-touched rom ram store image lines s line (is .over) (is .some)))))))
 
   -- Whole said: an end since whose start no line landed in the area is said to be whole
   pub whole-said : (s : Begun rom (atReset ram store image) lines (here .state .started)) → AreaLeft (found (sessionAfter s)) (callsOf rom (sessionAfter s) (s .since))
@@ -742,6 +786,25 @@ module _ (rom ram store image : List ℕ) (lines : List (List ℕ)) (line : List
   pub dropped-told : (serial cycles : ℕ) → nextEvent rom (atReset ram store image) lines line ≡ dropped serial cycles
       → Started rom (atReset ram store image) lines (line ∷ []) serial cycles
   dropped-told serial cycles e = mark-told serial cycles (is-dropped (leftBy rom (atReset ram store image) lines .book) (here .image) (found here) call serial cycles e)
+
+  -- Landed: the line writes that byte, which landed in that place, and the capture held then has that serial
+  pub landed-told : (serial spot byte : ℕ) → nextEvent rom (atReset ram store image) lines line ≡ landed serial spot byte
+      → LandedTold rom (atReset ram store image) lines line serial spot byte
+  landed-told serial spot byte e =
+      let w₀ = atReset ram store image in
+      let is = is-landed (leftBy rom w₀ lines .book) (here .image) (found here) call serial spot byte e in
+      let at = placeOf (found here) call in
+      let s = the-start (is .held) in
+      let g = the-begun rom ram store image lines s in
+      let t = lands-write rom (here .image) (found here) (frameOf line) at (is .lands) in
+      subst (λ (n : ℕ). LandedTold rom w₀ lines line n spot byte) (is .serial)
+      (record {
+        begun = g;
+        one = one-begun rom ram store image lines g;
+        address = t .0;
+        write = t .1 ∙ ap (Write (t .0)) (is .byte);
+        lands = ap (landsSeen (found here) call) (sym (is .place)) ∙ is .lands;
+      })
 
 -- Held: of a capture that is held after lines, as the end of an audit says it
 pub held-told : (rom ram store image : List ℕ) (lines : List (List ℕ)) → leftBy rom (atReset ram store image) lines .world .state .held ≡ true

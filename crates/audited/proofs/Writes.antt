@@ -15,7 +15,7 @@ use Rattle.controller.specs.State.{resetState}
 use Rattle.cartridge.specs.Bus.{registersOn, ramWritable, ramPlace}
 use Rattle.history.specs.History.{Call, reset, read, write, tick, inspect, choose, place, leaves, after}
 use Rattle.history.specs.History.{World as Found}
-use Rattle.history.specs.Seen.{isReset, startSeen, endSeen, heldThrough, inArea, accepted, goesTo, goesIn, landsSeen, landedSeen, AreaLeft}
+use Rattle.history.specs.Seen.{isReset, startSeen, endSeen, heldThrough, inArea, accepted, goesTo, goesIn, landsSeen, landedSeen, byteIn, AreaLeft}
 use Rattle.lines.specs.declared.line.Frame.{Frame}
 use Rattle.lines.specs.declared.line.Frame.the-variants.{Reset, Read, Write, Tick, Row, Malformed}
 use Rattle.lines.specs.Line.{frameOf}
@@ -26,6 +26,7 @@ use Rattle.audit.specs.Book as book
 use Rattle.audit.specs.Event.{Event, none, start, stop, resume, dropped, landed, whole, touched, found, callOf, stopSeen, resumeSeen, dropSeen, placeOf, writeSeen, seenOf, eventOf}
 use Rattle.audit.specs.Line.{isMalformed, isRow, lineCounted, touchCounted, eventCounted, auditOf, auditAll}
 use Rattle.audited.specs.Sessions.{callsOf}
+use Rattle.audited.specs.Told.{landsInArea, landings}
 use Rattle.audited.proofs.Sessions.{line-found}
 
 -- ---- a book has thirteen numbers
@@ -207,6 +208,16 @@ lands-place rom image w (Write a v) p h =
 lands-place rom image w (Tick n) p h = not-both h refl
 lands-place rom image w (Row y) p h = not-both h refl
 lands-place rom image w Malformed p h = not-both h refl
+
+-- and it is a write of the byte that it brings there
+pub lands-write : (rom image : List ℕ) (w : Found) (f : Frame) (p : ℕ) → landsSeen w (callOf rom image f) p ≡ true → (a : ℕ) × (f ≡ Write a (byteIn (callOf rom image f) p))
+unfolding callOf landsSeen goesIn byteIn
+lands-write rom image w Reset p h = not-both h refl
+lands-write rom image w (Read a) p h = not-both h refl
+lands-write rom image w (Write a v) p h = (a, refl)
+lands-write rom image w (Tick n) p h = not-both h refl
+lands-write rom image w (Row y) p h = not-both h refl
+lands-write rom image w Malformed p h = not-both h refl
 
 -- a call lands in the area
 pub touches : Found → Call → Bool
@@ -483,6 +494,28 @@ last-landed rom (line ∷ ls) w b l h clear some =
 pub some-last : (rom : List ℕ) (ls : List (List ℕ)) (w : World) (b : List ℕ) → Long b → heldThrough (found w) (callsOf rom w ls) ≡ true
     → noted b writes ≡ 0 → (noted (auditAll rom w b ls .book) writes ≡ 0 → ⊥) → Last rom w b ls (noted (auditAll rom w b ls .book) last)
 some-last rom ls w b l h z some = last-landed rom ls w b l h (λ left e. absurd (some (left-none rom ls w b l h left z))) (λ r. r)
+
+counts-one : (t : Bool) (n : ℕ) → oneMore n ≡ n + 1 → pick t (oneMore n) n ≡ n + pick t 1 0
+counts-one true n e = e
+counts-one false n e = omega arith
+
+-- Writes counted: the book counts the lines that land there, as far as 64 bits go
+pub writes-counted : (rom : List ℕ) (ls : List (List ℕ)) (w : World) (b : List ℕ) → Long b → heldThrough (found w) (callsOf rom w ls) ≡ true
+    → noted b writes + length ls ≤ 0xFFFFFFFFFFFFFFFF → noted (auditAll rom w b ls .book) writes ≡ noted b writes + landings rom w ls
+unfolding auditAll auditOf landings
+writes-counted rom [] w b l h most = omega arith
+writes-counted rom (line ∷ ls) w b l h most =
+    let f = first-held rom w line ls h in
+    let k = callOf rom (w .image) (frameOf line) in
+    let b′ = auditOf rom w b line .book in
+    let same : touches (found w) k ≡ landsInArea (found w) k = unfold touches writeSeen landsInArea in rw (f .0) in
+    let n : noted b′ writes ≡ noted b writes + pick (landsInArea (found w) k) 1 0 =
+    line-writes rom w b line l (f .0) (f .1)
+    ∙ ap (λ (t : Bool). pick t (oneMore (noted b writes)) (noted b writes)) same
+    ∙ counts-one (landsInArea (found w) k) (noted b writes) (one-more-is (noted b writes) (omega arith)) in
+    let few : pick (landsInArea (found w) k) 1 0 ≤ 1 = pick-ind (λ (x : ℕ). x ≤ 1) (landsInArea (found w) k) (λ _. omega arith) (λ _. omega arith) in
+    let r = writes-counted rom ls (stepOf rom w line .world) b′ (long-next rom w b line l) (f .2) (omega (arith, n, few)) in
+    r ∙ omega (arith, n)
 
 -- a start has none
 pub start-none : (b : List ℕ) (s i r : ℕ) (g : List ℕ) → Long b → noted (eventCounted b (start s i r g)) writes ≡ 0

@@ -1,21 +1,23 @@
 -- What the events of a recording tell. Assumes nothing.
 use mathlib.Core.Path.{_≡_}
-use mathlib.Core.Bool.{true}
+use mathlib.Core.Bool.{Bool, true, _&&_}
 use mathlib.Core.List.{List, [], _∷_, _++_}
-use Prim.Native.Nat.{ℕ, _%_, _≤_}
+use Prim.Native.Nat.{ℕ, _+_, _%_, _≤_}
 use lib.ListN.{length, set}
+use Rattle.laws.specs.Pick.{pick}
 use Rattle.crc.specs.Crc.{crcOf}
 use Rattle.timing.specs.Timing.{totalOf}
 use Rattle.lighting.specs.Taken.{settingOf}
 use Rattle.lighting.specs.Light.{litOf}
 use Rattle.tiles.specs.Tiles.{areaOf}
 use Rattle.plates.specs.Grey.{plateOf, plateAfresh}
-use Rattle.history.specs.History.{counted}
+use Rattle.history.specs.History.{Call, counted}
+use Rattle.history.specs.History.{World as Found}
 use Rattle.history.specs.Seen.{inArea, landsSeen, heldThrough, AreaLeft, afresh}
 use Rattle.lines.specs.declared.line.Frame.the-variants.{Write}
 use Rattle.lines.specs.Line.{frameOf}
-use Rattle.session.specs.Session.{World}
-use Rattle.audit.specs.Event.{start, found, callOf}
+use Rattle.session.specs.Session.{World, stepOf}
+use Rattle.audit.specs.Event.{start, found, callOf, placeOf}
 use Rattle.audited.specs.Sessions.{callsOf, leftBy, nextEvent}
 
 -- lines split at one whose event is a start with this serial, and since which a capture is held after each line
@@ -69,6 +71,14 @@ pub record WholeTold (rom : List ℕ) (w : World) (lines : List (List ℕ)) (lin
   pub of-area : plate ≡ crcOf (plateOf (leftBy rom w (lines ++ (line ∷ [])) .world .ram))
   pub of-picture : plate ≡ crcOf (plateAfresh (litOf (sessionBefore (from .begun) .image) (settingOf (from .begun .registers))) (from .begun .registers))
 
+-- what a write that landed tells: its capture has such a start, and one; and the line writes this byte, which landed in this place of the RAM
+pub record LandedTold (rom : List ℕ) (w : World) (lines : List (List ℕ)) (line : List ℕ) (serial place byte : ℕ) : Type 0 where
+  pub begun : Begun rom w lines serial
+  pub one : (other : Begun rom w lines serial) → OneBegun begun other
+  pub address : ℕ
+  pub write : frameOf line ≡ Write address byte
+  pub lands : landsSeen (found (leftBy rom w lines .world)) (callOf rom (leftBy rom w lines .world .image) (frameOf line)) place ≡ true
+
 -- a line among those since the start that landed in the picture area, and where
 pub record Landing (rom : List ℕ) (w : World) (lines : List (List ℕ)) (serial : ℕ) (s : Begun rom w lines serial) : Type 0 where
   pub earlier : List (List ℕ)
@@ -97,11 +107,22 @@ pub record LastLanding (rom : List ℕ) (w : World) (lines : List (List ℕ)) (s
       (callsOf rom (leftBy rom w (s .before ++ (s .line ∷ (landing .earlier ++ (landing .line ∷ [])))) .world) (landing .later))
   pub number : numberOf landing ≡ n
 
--- what `touched` tells: a line since the start landed in the picture area; of lines that 64 bits can number, the first and the last that did have these
--- numbers; the cycles are the total of the start's registers, and the checksum is of the plate after the line
-pub record TouchedTold (rom : List ℕ) (w : World) (lines : List (List ℕ)) (line : List ℕ) (serial cycles plate first last : ℕ) : Type 0 where
+-- a call lands in the picture area
+unfoldable pub landsInArea : Found → Call → Bool
+landsInArea w c = landsSeen w c (placeOf w c) && inArea (placeOf w c)
+
+-- how many of these lines landed in the picture area
+unfoldable pub landings : List ℕ → World → List (List ℕ) → ℕ
+landings rom w [] = 0
+landings rom w (line ∷ rest) =
+    pick (landsInArea (found w) (callOf rom (w .image) (frameOf line))) 1 0 + landings rom (stepOf rom w line .world) rest
+
+-- what `touched` tells: a line since the start landed in the picture area; of lines that 64 bits can number, so many did, and the first and the last
+-- that did have these numbers; the cycles are the total of the start's registers, and the checksum is of the plate after the line
+pub record TouchedTold (rom : List ℕ) (w : World) (lines : List (List ℕ)) (line : List ℕ) (serial cycles plate writes first last : ℕ) : Type 0 where
   pub from : Started rom w lines (line ∷ []) serial cycles
   pub landing : Landing rom w lines serial (from .begun)
+  pub count : length lines ≤ 0xFFFFFFFFFFFFFFFF → writes ≡ landings rom (sessionAfter (from .begun)) (from .begun .since)
   pub firstly : length lines ≤ 0xFFFFFFFFFFFFFFFF → FirstLanding rom w lines serial (from .begun) first
   pub lastly : length lines ≤ 0xFFFFFFFFFFFFFFFF → LastLanding rom w lines serial (from .begun) last
   pub total : cycles ≡ totalOf (from .begun .registers)
