@@ -1,0 +1,7 @@
+-- Theorems on audits.
+pub mod Sessions
+pub mod Writes
+pub mod Told
+pub mod Worked
+pub mod Alike
+pub mod Loop

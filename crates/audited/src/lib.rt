@@ -1,0 +1,1 @@
+// What an audit says holds: theorems only, no code.
