@@ -1,0 +1,27 @@
+-- `wording::events::put_taken` meets its contract: checksum, row and registers are put one after another. Assumes nothing.
+use native.Mathlib.Omega.{arith}
+use borrow.Author.Needs.{needs}
+use Rattle.wording.proofs.Puts.{put-within, put-then}
+use Rattle.wording.proofs.events.put_taken.Statement.{statement}
+use Rattle.wording.proofs.events.put_taken.Tie as tie
+
+returns : tie.Need-returns
+returns c =
+    let s = c .before .before .before .before .before .before .before .before .before .before .before .before .before .before .before .before .before .before .before .before .before .before in
+    let p = put-then (c .before .before .before .before .before .before .before .before .before .before .before .before .before .before .before .before .before .put-code .ensures) (put-then (c .before .before .before .before .before .before .before .before .before .before .before .before .put-count .ensures) (put-then (c .before .before .before .before .before .before .before .put-row .ensures) (λ _. c .before .before .put-word .ensures))) (omega (arith, s .pre .0)) in
+    put-within p 160 (omega arith)
+
+pub put-taken-spec : {M : Type 1} → statement M
+put-taken-spec =
+    tie.close
+    (tie.spec
+    (λ c. search needs)
+    (λ c κs. search needs)
+    (λ c. search needs)
+    (λ c κs. search needs)
+    (λ c. search needs)
+    (λ c κs. search needs)
+    (λ c. search needs)
+    (λ c κs. search needs)
+    (λ c. search needs)
+    returns)
