@@ -46,8 +46,8 @@ module _ {out t o : List ℕ} {at m a : ℕ} (p : Put out at t m o a) where
       }
 
 -- a text after one that has two parts
-pub put-after : {out : List ℕ} (t s : List ℕ) {u o o′ : List ℕ} {at m n a a′ : ℕ} → Put out at (t ++ s) m o a → (a + n ≤ length o → Put o a u n o′ a′) → at + (m + n) ≤ length out
-    → Put out at (t ++ (s ++ u)) (m + n) o′ a′
+pub put-after : {out : List ℕ} (t s : List ℕ) {u o o′ : List ℕ} {at m n a a′ : ℕ}
+    → Put out at (t ++ s) m o a → (a + n ≤ length o → Put o a u n o′ a′) → at + (m + n) ≤ length out → Put out at (t ++ (s ++ u)) (m + n) o′ a′
 put-after t s {u} p rest room = put-named (put-then p rest room) (append-assoc t s u)
 
 -- a number below ten is one digit
@@ -67,8 +67,8 @@ put-last out at (suc n) v {o} {a} some h fits p =
     simp (le-ltb v 10 h) (put-within (put-then q (λ room. put-one o a (0x30 + v % 10) (omega arith)) (omega arith)) (suc n) (omega arith))
 
 -- bytes, two digits each
-pub put-bytes : (out : List ℕ) (at : ℕ) (bytes : List ℕ) {o : List ℕ} → o ≡ placed out at (rowHex bytes) → Put out at (rowHex bytes) (2 * length bytes) o (at + 2 * length bytes)
-put-bytes out at bytes e = record { text = e; end = ap (λ n. at + n) (sym (length-row bytes)); few = omega arith }
+pub put-row : (out : List ℕ) (at : ℕ) (bytes : List ℕ) {o : List ℕ} (n : ℕ) → 2 * length bytes ≡ n → o ≡ placed out at (rowHex bytes) → Put out at (rowHex bytes) n o (at + n)
+put-row out at bytes n long e = record { text = e; end = ap (λ k. at + k) (sym (length-row bytes ∙ long)); few = omega arith }
 
 -- seven texts and one more
 eighth : (a b c d e f g v : List ℕ) → (a ++ (b ++ (c ++ (d ++ (e ++ (f ++ g)))))) ++ v ≡ a ++ (b ++ (c ++ (d ++ (e ++ (f ++ (g ++ v))))))

@@ -1,16 +1,18 @@
 // Events, put into a lent buffer. Each function returns the place after the event's LF.
 use super::words::put_code;
 use super::words::put_count;
-use super::words::put_row;
 use super::words::put_word;
+use recording::record::put_bytes;
 ghost use mathlib.Core.Path.{_≡_};
 ghost use mathlib.Core.List.{_++_};
 ghost use Prim.Native.Nat.{_+_, _≤_};
 ghost use lib.ListN.{length};
 ghost use Rattle.laws.specs.Pick.{pick};
 ghost use Rattle.lines.specs.Hex.{hexText};
-ghost use Rattle.wording.specs.Keys.{insideWord, outsideWord};
-ghost use Rattle.wording.specs.Events.{markText, startText, stopText, resumeText, droppedText, heldText, landedText, wholeText, touchedText, changedText, unchangedText, summaryText};
+ghost use Rattle.recording.specs.Record.{rowHex};
+ghost use Rattle.wording.specs.Keys.{registersWord, insideWord, outsideWord};
+ghost use Rattle.wording.specs.Events.{markText, startText, stopText, resumeText, droppedText, heldText, landedText};
+ghost use Rattle.wording.specs.Events.{wholeText, touchedText, changedText, unchangedText, summaryText};
 ghost use Rattle.wording.specs.Aside.{Put, begun, takenText, endBegun, endsText};
 
 // An event up to its serial.
@@ -22,6 +24,16 @@ fn put_opening(out: &mut [u8], at: usize, line: u64, word: &[u8], serial: u16) -
     put_count(out, a, word, serial as u64)
 }
 
+// The registers taken.
+fn put_registers(out: &mut [u8], at: usize, registers: &[u8]) -> usize
+    requires { ⌜ (at + 119 ≤ length (now out)) × (length (now registers) ≡ 54) ⌝ }
+    ensures { λ r. ⌜ Put (now (out .entry)) at (registersWord ++ rowHex (now (registers .entry))) 119 (now (out .exit)) r ⌝ }
+{
+    let a = put_word(out, at, b" registers ");
+    put_bytes(out, a, registers);
+    a + 108
+}
+
 // What a start takes, from the checksum of the image on.
 fn put_taken(out: &mut [u8], at: usize, image: u32, row: u64, registers: &[u8]) -> usize
     requires { ⌜ (at + 160 ≤ length (now out)) × (length (now registers) ≡ 54) ⌝ }
@@ -29,7 +41,7 @@ fn put_taken(out: &mut [u8], at: usize, image: u32, row: u64, registers: &[u8]) 
 {
     let a = put_code(out, at, b" image ", 8, image);
     let b = put_count(out, a, b" row ", row);
-    let c = put_row(out, b, b" registers ", registers);
+    let c = put_registers(out, b, registers);
     put_word(out, c, b"\n")
 }
 

@@ -1,12 +1,10 @@
 // Words, decimal numbers and digits, put into a lent buffer. Each function returns the place after what it put.
 use lines::hex::put_digits;
-use recording::record::put_bytes;
 ghost use mathlib.Core.Path.{_≡_};
 ghost use mathlib.Core.List.{_++_};
-ghost use Prim.Native.Nat.{_+_, _*_, _≤_};
+ghost use Prim.Native.Nat.{_+_, _≤_};
 ghost use lib.ListN.{length};
 ghost use Rattle.lines.specs.Hex.{hexText};
-ghost use Rattle.recording.specs.Record.{rowHex};
 ghost use Rattle.wording.specs.Words.{decimalIn, decimal};
 ghost use Rattle.wording.specs.Aside.{Put};
 
@@ -73,14 +71,4 @@ pub(crate) fn put_code(out: &mut [u8], at: usize, word: &[u8], digits: usize, va
 {
     let next = put_word(out, at, word);
     put_hex(out, next, digits, value)
-}
-
-// Puts a word and bytes, two digits each.
-pub(crate) fn put_row(out: &mut [u8], at: usize, word: &[u8], bytes: &[u8]) -> usize
-    requires { ⌜ at + (length (now word) + 2 * length (now bytes)) ≤ length (now out) ⌝ }
-    ensures { λ r. ⌜ Put (now (out .entry)) at (now (word .entry) ++ rowHex (now (bytes .entry))) (length (now (word .entry)) + 2 * length (now (bytes .entry))) (now (out .exit)) r ⌝ }
-{
-    let next = put_word(out, at, word);
-    put_bytes(out, next, bytes);
-    next + 2 * bytes.len()
 }

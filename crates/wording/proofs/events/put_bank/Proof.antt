@@ -6,10 +6,14 @@ use Rattle.wording.proofs.events.put_bank.Statement.{statement}
 use Rattle.wording.proofs.events.put_bank.Tie as tie
 
 returns : tie.Need-returns
-returns c = simp (c .before .before .before .before .before .if1 .taken) (put-within (c .before .before .put-code .ensures) 20 (omega arith))
+returns c =
+    let p = put-within (c .before .before .put-code .ensures) 20 (omega arith) in
+    simp (c .before .before .before .before .before .if1 .taken) p
 
 returns-2 : tie.Need-returns-2
-returns-2 c = simp (c .before .before .before .before .before .if1 .left) (put-within (c .before .before .put-code2 .ensures) 20 (omega arith))
+returns-2 c =
+    let p = put-within (c .before .before .put-code2 .ensures) 20 (omega arith) in
+    simp (c .before .before .before .before .before .if1 .left) p
 
 pub put-bank-spec : {M : Type 1} → statement M
 put-bank-spec =

@@ -9,9 +9,21 @@ use Rattle.wording.proofs.events.put_changed.Tie as tie
 returns : tie.Need-returns
 unfolding changedText
 returns c =
-    let s = c .before .before .before .before .before .before .before .before .before .before .before .before .before .before .before .before .before .before .before .before .before .before .before .before .before .before in
-    let p = put-then (c .before .before .before .before .before .before .before .before .before .before .before .before .before .before .before .before .before .before .before .before .before .before .put-count .ensures) (put-then (c .before .before .before .before .before .before .before .before .before .before .before .before .before .before .before .before .before .put-code .ensures) (put-then (c .before .before .before .before .before .before .before .before .before .before .before .before .put-code2 .ensures) (put-then (c .before .before .before .before .before .before .before .put-code3 .ensures) (λ _. c .before .before .put-word .ensures)))) (omega (arith, s .pre)) in
-    put-within p 256 (omega arith)
+    let five = c .before .before in
+    let four = five .before .before .before .before .before in
+    let three = four .before .before .before .before .before in
+    let two = three .before .before .before .before .before in
+    let one = two .before .before .before .before .before in
+    let s = one .before .before .before .before in
+    put-within
+    (put-then (one .put-count .ensures)
+    (put-then (two .put-code .ensures)
+    (put-then (three .put-code2 .ensures)
+    (put-then (four .put-code3 .ensures)
+    (λ _. five .put-word .ensures))))
+    (omega (arith, s .pre)))
+    256
+    (omega arith)
 
 pub put-changed-spec : {M : Type 1} → statement M
 put-changed-spec =

@@ -9,10 +9,4 @@ unfolding droppedText
 returns c = c .before .before .put-mark .ensures
 
 pub put-dropped-spec : {M : Type 1} → statement M
-put-dropped-spec =
-    tie.close
-    (tie.spec
-    (λ c. search needs)
-    (λ c κs. search needs)
-    (λ c. search needs)
-    returns)
+put-dropped-spec = tie.close (tie.spec (λ c. search needs) (λ c κs. search needs) (λ c. search needs) returns)

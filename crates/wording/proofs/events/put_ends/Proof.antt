@@ -7,9 +7,23 @@ use Rattle.wording.proofs.events.put_ends.Tie as tie
 
 returns : tie.Need-returns
 returns c =
-    let s = c .before .before .before .before .before .before .before .before .before .before .before .before .before .before .before .before .before .before .before .before .before .before .before .before .before .before .before .before .before .before .before in
-    let p = put-then (c .before .before .before .before .before .before .before .before .before .before .before .before .before .before .before .before .before .before .before .before .before .before .before .before .before .before .before .put-count .ensures) (put-then (c .before .before .before .before .before .before .before .before .before .before .before .before .before .before .before .before .before .before .before .before .before .before .put-count2 .ensures) (put-then (c .before .before .before .before .before .before .before .before .before .before .before .before .before .before .before .before .before .put-count3 .ensures) (put-then (c .before .before .before .before .before .before .before .before .before .before .before .before .put-count4 .ensures) (put-then (c .before .before .before .before .before .before .before .put-count5 .ensures) (λ _. c .before .before .put-word .ensures))))) (omega (arith, s .pre)) in
-    put-within p 140 (omega arith)
+    let six = c .before .before in
+    let five = six .before .before .before .before .before in
+    let four = five .before .before .before .before .before in
+    let three = four .before .before .before .before .before in
+    let two = three .before .before .before .before .before in
+    let one = two .before .before .before .before .before in
+    let s = one .before .before .before .before in
+    put-within
+    (put-then (one .put-count .ensures)
+    (put-then (two .put-count2 .ensures)
+    (put-then (three .put-count3 .ensures)
+    (put-then (four .put-count4 .ensures)
+    (put-then (five .put-count5 .ensures)
+    (λ _. six .put-word .ensures)))))
+    (omega (arith, s .pre)))
+    140
+    (omega arith)
 
 pub put-ends-spec : {M : Type 1} → statement M
 put-ends-spec =

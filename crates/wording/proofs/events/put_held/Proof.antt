@@ -9,10 +9,4 @@ unfolding heldText
 returns c = c .before .before .put-mark .ensures
 
 pub put-held-spec : {M : Type 1} → statement M
-put-held-spec =
-    tie.close
-    (tie.spec
-    (λ c. search needs)
-    (λ c κs. search needs)
-    (λ c. search needs)
-    returns)
+put-held-spec = tie.close (tie.spec (λ c. search needs) (λ c κs. search needs) (λ c. search needs) returns)

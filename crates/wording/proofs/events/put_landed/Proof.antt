@@ -1,8 +1,8 @@
 -- `wording::events::put_landed` meets its contract: bank, offset and byte are put after the opening. Assumes nothing.
-use native.Mathlib.Omega.{arith}
-use borrow.Author.Needs.{needs}
 use mathlib.Core.List.{_++_}
 use Prim.Native.Nat.{_/_}
+use native.Mathlib.Omega.{arith}
+use borrow.Author.Needs.{needs}
 use Rattle.laws.specs.Pick.{pick}
 use Rattle.lines.specs.Hex.{hexText}
 use Rattle.wording.specs.Words.{decimal}
@@ -15,9 +15,22 @@ use Rattle.wording.proofs.events.put_landed.Tie as tie
 returns : tie.Need-returns
 unfolding landedText
 returns c =
-    let s = c .before .before .before .before .before .before .before .before .before .before .before .before .before .before .before .before .before .before .before .before .before .before .before .before .before in
-    let p = put-after (opening (s .args .line)) (writeWord ++ decimal (s .args .serial)) (c .before .before .before .before .before .before .before .before .before .before .before .before .before .before .before .before .before .before .before .before .before .put-opening .ensures) (put-after (pick (s .args .inside) insideWord outsideWord) (hexText 1 (s .args .place / 8192)) (c .before .before .before .before .before .before .before .before .before .before .before .before .before .before .before .before .before .put-bank .ensures) (put-then (c .before .before .before .before .before .before .before .before .before .before .before .before .put-code .ensures) (put-then (c .before .before .before .before .before .before .before .put-code2 .ensures) (λ _. c .before .before .put-word .ensures)))) (omega (arith, s .pre)) in
-    put-within p 256 (omega arith)
+    let five = c .before .before in
+    let four = five .before .before .before .before .before in
+    let three = four .before .before .before .before .before in
+    let two = three .before .before .before .before .before in
+    let one = two .before .before .before .before in
+    let s = one .before .before .before .before in
+    let a = s .args in
+    put-within
+    (put-after (opening (a .line)) (writeWord ++ decimal (a .serial)) (one .put-opening .ensures)
+    (put-after (pick (a .inside) insideWord outsideWord) (hexText 1 (a .place / 8192)) (two .put-bank .ensures)
+    (put-then (three .put-code .ensures)
+    (put-then (four .put-code2 .ensures)
+    (λ _. five .put-word .ensures))))
+    (omega (arith, s .pre)))
+    256
+    (omega arith)
 
 pub put-landed-spec : {M : Type 1} → statement M
 put-landed-spec =

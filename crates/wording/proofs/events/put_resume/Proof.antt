@@ -9,10 +9,4 @@ unfolding resumeText
 returns c = c .before .before .put-mark .ensures
 
 pub put-resume-spec : {M : Type 1} → statement M
-put-resume-spec =
-    tie.close
-    (tie.spec
-    (λ c. search needs)
-    (λ c κs. search needs)
-    (λ c. search needs)
-    returns)
+put-resume-spec = tie.close (tie.spec (λ c. search needs) (λ c κs. search needs) (λ c. search needs) returns)

@@ -9,10 +9,4 @@ unfolding stopText
 returns c = c .before .before .put-mark .ensures
 
 pub put-stop-spec : {M : Type 1} → statement M
-put-stop-spec =
-    tie.close
-    (tie.spec
-    (λ c. search needs)
-    (λ c κs. search needs)
-    (λ c. search needs)
-    returns)
+put-stop-spec = tie.close (tie.spec (λ c. search needs) (λ c κs. search needs) (λ c. search needs) returns)

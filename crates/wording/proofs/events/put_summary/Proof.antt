@@ -9,9 +9,21 @@ use Rattle.wording.proofs.events.put_summary.Tie as tie
 returns : tie.Need-returns
 unfolding summaryText
 returns c =
-    let s = c .before .before .before .before .before .before .before .before .before .before .before .before .before .before .before .before .before .before .before .before .before .before .before .before .before in
-    let p = put-then (c .before .before .before .before .before .before .before .before .before .before .before .before .before .before .before .before .before .before .before .before .before .put-count .ensures) (put-then (c .before .before .before .before .before .before .before .before .before .before .before .before .before .before .before .before .put-count2 .ensures) (put-then (c .before .before .before .before .before .before .before .before .before .before .before .put-count3 .ensures) (put-then (c .before .before .before .before .before .before .put-count4 .ensures) (λ _. c .before .before .put-ends .ensures)))) (omega (arith, s .pre)) in
-    put-within p 400 (omega arith)
+    let five = c .before .before in
+    let four = five .before .before .before .before in
+    let three = four .before .before .before .before .before in
+    let two = three .before .before .before .before .before in
+    let one = two .before .before .before .before .before in
+    let s = one .before .before .before .before in
+    put-within
+    (put-then (one .put-count .ensures)
+    (put-then (two .put-count2 .ensures)
+    (put-then (three .put-count3 .ensures)
+    (put-then (four .put-count4 .ensures)
+    (λ _. five .put-ends .ensures))))
+    (omega (arith, s .pre)))
+    400
+    (omega arith)
 
 pub put-summary-spec : {M : Type 1} → statement M
 put-summary-spec =

@@ -7,9 +7,19 @@ use Rattle.wording.proofs.events.put_taken.Tie as tie
 
 returns : tie.Need-returns
 returns c =
-    let s = c .before .before .before .before .before .before .before .before .before .before .before .before .before .before .before .before .before .before .before .before .before .before in
-    let p = put-then (c .before .before .before .before .before .before .before .before .before .before .before .before .before .before .before .before .before .put-code .ensures) (put-then (c .before .before .before .before .before .before .before .before .before .before .before .before .put-count .ensures) (put-then (c .before .before .before .before .before .before .before .put-row .ensures) (λ _. c .before .before .put-word .ensures))) (omega (arith, s .pre .0)) in
-    put-within p 160 (omega arith)
+    let four = c .before .before in
+    let three = four .before .before .before .before .before in
+    let two = three .before .before .before .before in
+    let one = two .before .before .before .before .before in
+    let s = one .before .before .before .before .before in
+    put-within
+    (put-then (one .put-code .ensures)
+    (put-then (two .put-count .ensures)
+    (put-then (three .put-registers .ensures)
+    (λ _. four .put-word .ensures)))
+    (omega (arith, s .pre .0)))
+    160
+    (omega arith)
 
 pub put-taken-spec : {M : Type 1} → statement M
 put-taken-spec =
@@ -19,7 +29,6 @@ put-taken-spec =
     (λ c κs. search needs)
     (λ c. search needs)
     (λ c κs. search needs)
-    (λ c. search needs)
     (λ c κs. search needs)
     (λ c. search needs)
     (λ c κs. search needs)

@@ -9,9 +9,15 @@ use Rattle.wording.proofs.events.put_unchanged.Tie as tie
 returns : tie.Need-returns
 unfolding unchangedText
 returns c =
-    let s = c .before .before .before .before .before .before .before .before .before .before .before in
-    let p = put-then (c .before .before .before .before .before .before .before .put-count .ensures) (λ _. c .before .before .put-word .ensures) (omega (arith, s .pre)) in
-    put-within p 256 (omega arith)
+    let two = c .before .before in
+    let one = two .before .before .before .before .before in
+    let s = one .before .before .before .before in
+    put-within
+    (put-then (one .put-count .ensures)
+    (λ _. two .put-word .ensures)
+    (omega (arith, s .pre)))
+    256
+    (omega arith)
 
 pub put-unchanged-spec : {M : Type 1} → statement M
 put-unchanged-spec =

@@ -5,13 +5,13 @@ use Rattle.wording.proofs.words.put_code.Statement.{statement}
 use Rattle.wording.proofs.words.put_code.Tie as tie
 
 returns : tie.Need-returns
-returns c = put-then (c .before .before .before .before .before .before .put-word .ensures) (λ _. c .before .before .put-hex .ensures) (c .before .before .before .before .before .before .before .before .before .before .pre .0)
+returns c =
+    let two = c .before .before in
+    let one = two .before .before .before .before in
+    let s = one .before .before .before .before in
+    put-then (one .put-word .ensures)
+    (λ _. two .put-hex .ensures)
+    (s .pre .0)
 
 pub put-code-spec : {M : Type 1} → statement M
-put-code-spec =
-    tie.close
-    (tie.spec
-    (λ c κs. search needs)
-    (λ c κs. search needs)
-    (λ c. search needs)
-    returns)
+put-code-spec = tie.close (tie.spec (λ c κs. search needs) (λ c κs. search needs) (λ c. search needs) returns)
