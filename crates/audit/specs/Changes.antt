@@ -32,8 +32,10 @@ begins first ram from = seek first ram (length ram - from) from
 abbrev pub ends : List ℕ → List ℕ → ℕ → ℕ
 ends first ram from = reach first ram (length ram - begins first ram from) (begins first ram from)
 
--- its event; where there is none from the first place on, that nothing changed
+-- the event of a stretch that begins and ends so; where there is none from the first place on, that nothing changed
+abbrev pub stretchText : ℕ → ℕ → ℕ → ℕ → ℕ → List ℕ
+stretchText n size from begin end = pick (ltb begin size) (changedText n begin (end - 1)) (pick (eqb from 0) (unchangedText n) [])
+
+-- the event of the first stretch from a place on
 unfoldable pub changeText : ℕ → List ℕ → List ℕ → ℕ → List ℕ
-changeText n first ram from =
-    pick (ltb (begins first ram from) (length ram)) (changedText n (begins first ram from) (ends first ram from - 1))
-    (pick (eqb from 0) (unchangedText n) [])
+changeText n first ram from = stretchText n (length ram) from (begins first ram from) (ends first ram from)

@@ -1,1 +1,2 @@
 // What an audit says of a recording.
+pub mod changes;

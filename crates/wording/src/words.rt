@@ -1,6 +1,5 @@
 // Words, decimal numbers and digits, put into a lent buffer. Each function returns the place after what it put.
 use lines::hex::put_digits;
-ghost use mathlib.Core.Path.{_≡_};
 ghost use mathlib.Core.List.{_++_};
 ghost use Prim.Native.Nat.{_+_, _≤_};
 ghost use lib.ListN.{length};
@@ -48,7 +47,7 @@ pub fn put_number(out: &mut [u8], at: usize, n: u64) -> usize
 
 // Puts a value in so many hexadecimal digits.
 pub fn put_hex(out: &mut [u8], at: usize, digits: usize, value: u32) -> usize
-    requires { ⌜ (at + digits ≤ length (now out)) × (digits ≤ 8) ⌝ }
+    requires { ⌜ at + digits ≤ length (now out) ⌝ }
     ensures { λ r. ⌜ Put (now (out .entry)) at (hexText digits value) digits (now (out .exit)) r ⌝ }
 {
     put_digits(out, at, digits, value);
@@ -66,7 +65,7 @@ pub(crate) fn put_count(out: &mut [u8], at: usize, word: &[u8], n: u64) -> usize
 
 // Puts a word and a value in so many hexadecimal digits.
 pub(crate) fn put_code(out: &mut [u8], at: usize, word: &[u8], digits: usize, value: u32) -> usize
-    requires { ⌜ (at + (length (now word) + digits) ≤ length (now out)) × (digits ≤ 8) ⌝ }
+    requires { ⌜ at + (length (now word) + digits) ≤ length (now out) ⌝ }
     ensures { λ r. ⌜ Put (now (out .entry)) at (now (word .entry) ++ hexText digits value) (length (now (word .entry)) + digits) (now (out .exit)) r ⌝ }
 {
     let next = put_word(out, at, word);

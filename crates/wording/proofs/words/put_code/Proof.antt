@@ -11,7 +11,7 @@ returns c =
     let s = one .before .before .before .before in
     put-then (one .put-word .ensures)
     (λ _. two .put-hex .ensures)
-    (s .pre .0)
+    (s .pre)
 
 pub put-code-spec : {M : Type 1} → statement M
 put-code-spec = tie.close (tie.spec (λ c κs. search needs) (λ c κs. search needs) (λ c. search needs) returns)

@@ -1,0 +1,2 @@
+-- Laws of what an audit says.
+pub mod Stretches
