@@ -4,3 +4,4 @@ pub mod Event
 pub mod Line
 pub mod Pieces
 pub mod Changes
+pub mod Aside

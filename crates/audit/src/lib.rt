@@ -1,1 +1,6 @@
 // What an audit says of a recording.
+pub mod book;
+pub mod event;
+pub mod line;
+pub mod sight;
+pub mod text;
