@@ -1,2 +1,3 @@
--- Laws of what an audit says.
-pub mod Stretches
+-- Laws of what is seen of a line.
+pub mod Sights
+pub mod Lines

@@ -3,4 +3,4 @@ pub mod Book
 pub mod Event
 pub mod Line
 pub mod Pieces
-pub mod Changes
+pub mod Aside

@@ -1,2 +1,6 @@
 // What an audit says of a recording.
-pub mod changes;
+pub mod book;
+pub mod event;
+pub mod line;
+pub mod sight;
+pub mod text;

@@ -19,8 +19,8 @@ use Rattle.lines.specs.Line.{isHex, worth, isLine, hexPart, numberAt, spelled, 
 use Rattle.lines.proofs.Digits.{worth-small}
 use Rattle.session.specs.Session.{World, frameStep, stepOf}
 use Rattle.script.specs.Text.{played}
-use Rattle.audit.specs.Event.{found, callOf}
-use Rattle.audit.specs.Line.{auditOf, auditAll}
+use Rattle.auditing.specs.Event.{found, callOf}
+use Rattle.auditing.specs.Line.{auditOf, auditAll}
 use Rattle.audited.specs.Sessions.{callsOf, Played}
 
 -- ---- one line

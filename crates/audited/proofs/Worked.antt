@@ -30,9 +30,9 @@ use Rattle.recording.specs.Record.{lineOf}
 use Rattle.recording.proofs.Recorded.{Sayable, written-read}
 use Rattle.recording.proofs.Recorded as recorded
 use Rattle.session.specs.Session.{World, frameStep, stepOf}
-use Rattle.audit.specs.Book.{newBook}
-use Rattle.audit.specs.Event.{whole, found, callOf, cyclesOf}
-use Rattle.audit.specs.Line.{isRow}
+use Rattle.auditing.specs.Book.{newBook}
+use Rattle.auditing.specs.Event.{whole, found, callOf, cyclesOf}
+use Rattle.auditing.specs.Line.{isRow}
 use Rattle.audited.specs.Sessions.{callsOf, atReset, leftBy, nextEvent}
 use Rattle.audited.specs.Told.{WholeTold}
 use Rattle.audited.proofs.Sessions.{audit-found}

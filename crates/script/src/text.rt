@@ -58,7 +58,7 @@ fn at_most(n: usize, most: usize) -> usize
 }
 
 // Holds bytes of a line after those that are held, as far as 261, and returns how many are held then.
-fn hold(line: &mut [u8], held: usize, bytes: &[u8]) -> usize
+pub fn hold(line: &mut [u8], held: usize, bytes: &[u8]) -> usize
     requires { ⌜ (length (now line) ≡ 261) × (held ≤ 261) ⌝ }
     ensures { λ r. ⌜ (now (line .exit) ≡ placed (now (line .entry)) held (take (261 - held) (now (bytes .entry)))) × (r ≡ held + length (take (261 - held) (now (bytes .entry)))) × (r ≤ 261) ⌝ }
 {
@@ -82,7 +82,7 @@ fn holding(line: [u8; 261], held: usize) -> Reader
 }
 
 // Where the line that begins at a place of a piece ends: at its LF, or at the piece's end.
-fn line_end(piece: &[u8], from: usize) -> usize
+pub fn line_end(piece: &[u8], from: usize) -> usize
     requires { ⌜ from ≤ length (now piece) ⌝ }
     ensures { λ r. ⌜ Ends (now (piece .entry)) from r ⌝ }
 {

@@ -13,7 +13,7 @@ use Rattle.laws.proofs.Pick.{pick-ind, never}
 use Rattle.timing.specs.Lent.{frameAllowed}
 use Rattle.controller.specs.Outcome.{Outcome, numberOf}
 use Rattle.controller.specs.Table.{Row, lowest}
-use Rattle.cartridge.specs.Calls.{readRows, writeRows}
+use Rattle.cartridge.specs.Calls.{readRows, writeRows, writeMeans}
 use Rattle.capture.specs.Calls.{tickRows}
 use Rattle.controller.proofs.Refusals.{Refuses, inOutcome}
 use Rattle.cartridge.proofs.Refusals.{read-refuses, write-refuses}
@@ -25,13 +25,19 @@ use Rattle.lines.specs.Line.{frameOf}
 use Rattle.lines.specs.Kinds.{isKind, isMalformed}
 use Rattle.lines.proofs.Spelt.{text-number}
 use Rattle.lines.proofs.Malformed.{only}
-use Rattle.session.specs.Answer.{answerText, numberSaid}
+use Rattle.session.specs.declared.answer.Answer.{Answer}
+use Rattle.session.specs.Answer.{answerText, textOf, numberSaid}
 use Rattle.session.specs.Session.{World, rowText, frameStep, stepOf}
+use Rattle.session.specs.Aside.{Short}
 
 -- an answer begins with its number
 pub number-said : (n digits value : ℕ) → n < 256 → numberSaid (answerText n digits value) ≡ n
 unfolding answerText printed
 number-said n digits value h = text-number [] (hexText (pick (eqb n 0) digits 0) value ++ (0x0A ∷ [])) 2 n h
+
+pub said-number : (a : Answer) → Short a → numberSaid (textOf a) ≡ a .number
+unfolding printed
+said-number a s = text-number [] (hexText (a .digits) (a .value) ++ (0x0A ∷ [])) 2 (a .number) (s .small)
 
 lower : (n digits value : ℕ) → n < 6 → numberSaid (answerText n digits value) < 6
 lower n digits value h = rw (number-said n digits value (omega arith)) h
@@ -60,6 +66,15 @@ frame-lower rom line w (Write a v) t = call-lower (write-refuses (w .state) (w .
 frame-lower rom line w (Tick n) t = call-lower (tick-refuses (w .state) (w .ram) (w .store) n) refl 8
 frame-lower rom line w (RowFrame y) t = pick-ind (λ s. numberSaid s < 6) (frameAllowed (length (w .image))) (λ h. lower 0 0 0 (lit< tt)) (λ h. lower 4 0 0 (lit< tt))
 frame-lower rom line w Malformed t = absurd (never refl t)
+
+-- a write answers its refusal number
+pub write-said : (rom line : List ℕ) (w : World) (a v : ℕ) → numberSaid (frameStep rom line w (Write a v) .text) ≡ writeMeans (w .state) (w .ram) (w .store) (w .image) a v .number
+unfolding frameStep belowSix writeRows
+write-said rom line w a v =
+    let o = writeMeans (w .state) (w .ram) (w .store) (w .image) a v in
+    let r = write-refuses (w .state) (w .ram) (w .store) (w .image) a v in
+    let l : o .number < 6 = rw (r .numbered) (lowest-below (writeRows (w .state) (w .ram) (w .store) (w .image) a) refl) in
+    number-said (o .number) 0 (o .value) (omega arith)
 
 other : (rom line : List ℕ) (w : World) (f : Frame) → isMalformed f ≡ false → eqb (numberSaid (frameStep rom line w f .text)) 6 ≡ false
 other rom line w f t = ne-eqb (numberSaid (frameStep rom line w f .text)) 6 (λ e. omega (arith, frame-lower rom line w f t))

@@ -27,7 +27,7 @@ use Rattle.lines.specs.Line.{numberAt, frameOf}
 use Rattle.lines.specs.Hex.{placed}
 use Rattle.session.specs.Answer.{answerText, textOf}
 use Rattle.session.specs.Session.{World, Step, world, step, rowTaken, rowImage, rowText, frameStep, stepOf}
-use Rattle.session.specs.Aside.{Obeys, Printed, Saying, saying}
+use Rattle.session.specs.Aside.{Short, Obeys, ranIn, ranOf, Printed, Saying, saying}
 
 -- one byte of a row more
 pub row-more : (line : List ℕ) (y n : ℕ) (image : List ℕ) → rowTaken line y (n + 1) image ≡ set (rowTaken line y n image) (128 * y + n) (numberAt line (4 + 2 * n) 2)
@@ -70,6 +70,32 @@ module _ (rom line : List ℕ) (c : Controller) (ram store image : List ℕ) whe
   unfolding frameStep
   says-tick n e s r ram′ o = same _ _ _ _ _ _ _ _ _ _ (o .state) (o .ram) (o .store) refl (o .text) ∙ says (Tick n) e
 
+-- the running cycles of a frame, by its answer's value
+module _ (w : World) (f : Frame) (v : ℕ) where
+  pub ran-reset : f ≡ Reset → ranIn f v ≡ ranOf w f
+  unfolding ranIn ranOf
+  ran-reset e = rw e refl
+
+  pub ran-read : (a : ℕ) → f ≡ Read a → ranIn f v ≡ ranOf w f
+  unfolding ranIn ranOf
+  ran-read a e = rw e refl
+
+  pub ran-write : (a b : ℕ) → f ≡ Write a b → ranIn f v ≡ ranOf w f
+  unfolding ranIn ranOf
+  ran-write a b e = rw e refl
+
+  pub ran-tick : (n : ℕ) → f ≡ Tick n → v ≡ tickMeans (w .state) (w .ram) (w .store) n .value → ranIn f v ≡ ranOf w f
+  unfolding ranIn ranOf
+  ran-tick n e h = rw e h
+
+  pub ran-row : (y : ℕ) → f ≡ Row y → ranIn f v ≡ ranOf w f
+  unfolding ranIn ranOf
+  ran-row y e = rw e refl
+
+  pub ran-malformed : f ≡ Malformed → ranIn f v ≡ ranOf w f
+  unfolding ranIn ranOf
+  ran-malformed e = rw e refl
+
 -- a read changes no state
 read-keeps : (c : Controller) (rom ram : List ℕ) (a : ℕ) → readMeans c rom ram a .state ≡ c
 read-keeps c rom ram a = by-number (lowest (readRows c rom ram a)) refl
@@ -87,14 +113,14 @@ reset-whole = record { registers = refl; taken = refl; elapsed = omega arith; st
 
 -- a call over bytes: what is left is a record, and reads as the state left
 pub obeys-left : (digits : ℕ) (o : Outcome) (s : List ℕ) (a : Answer) (n v : ℕ) (ram store : List ℕ) → effect n v s ram store ≡ inBytes o → Whole (o .state)
-    → textOf a ≡ answerText n digits v → a .digits ≤ 8 → Obeys digits o s a ram store
-obeys-left digits o s a n v ram store e w t few = record {
+    → textOf a ≡ answerText n digits v → Short a → Obeys digits o s a ram store
+obeys-left digits o s a n v ram store e w t short = record {
   is = ap isRecord (λ i. e i .state) ∙ encoded-record (o .state) w;
   state = ap decoded (λ i. e i .state) ∙ decode-encode (o .state) w;
   ram = (λ i. e i .ram);
   store = (λ i. e i .store);
   text = t ∙ (λ i. answerText (e i .number) digits (e i .value));
-  few = few;
+  short = short;
 }
 
 said-alike : (w w′ : World) (t t′ : List ℕ) (n n′ : ℕ) → w ≡ w′ → t ≡ t′ → n ≡ n′ → _≡_ {A = Saying} (record { world = w; text = t; length = n }) (record { world = w′; text = t′; length = n′ })

@@ -24,11 +24,11 @@ ghost use Rattle.layout.specs.Layout.{isRecord, decoded};
 ghost use Rattle.lines.specs.Line.{hexPart, frameOf};
 ghost use Rattle.session.specs.Answer.{answerText, textOf};
 ghost use Rattle.session.specs.Session.{world, step, rowTaken, rowImage, rowText, stepOf};
-ghost use Rattle.session.specs.Aside.{Obeys, Printed, said, saying};
+ghost use Rattle.session.specs.Aside.{Short, Obeys, Carried, Printed, said, saying};
 
 // A refusal prints its number alone.
 fn refused(r: Refusal) -> Answer
-    ensures { λ a. ⌜ (textOf a ≡ answerText (numberOf r) 0 0) × (a .digits ≤ 8) ⌝ }
+    ensures { λ a. ⌜ (textOf a ≡ answerText (numberOf r) 0 0) × Short a × (a .value ≡ 0) ⌝ }
 {
     Answer {
         number: r.number(),
@@ -39,7 +39,7 @@ fn refused(r: Refusal) -> Answer
 
 // Nothing is refused and there is no value.
 fn done() -> Answer
-    ensures { λ a. ⌜ (textOf a ≡ answerText 0 0 0) × (a .digits ≤ 8) ⌝ }
+    ensures { λ a. ⌜ (textOf a ≡ answerText 0 0 0) × Short a ⌝ }
 {
     Answer {
         number: 0,
@@ -50,7 +50,7 @@ fn done() -> Answer
 
 // After a read the byte.
 fn read_answer(r: ReadAnswer) -> Answer
-    ensures { λ a. ⌜ (textOf a ≡ answerText (readNumber r) 2 (readValue r)) × (a .digits ≤ 8) ⌝ }
+    ensures { λ a. ⌜ (textOf a ≡ answerText (readNumber r) 2 (readValue r)) × Short a ⌝ }
 {
     match r {
         ReadAnswer::Byte(b) => Answer {
@@ -64,7 +64,7 @@ fn read_answer(r: ReadAnswer) -> Answer
 
 // After a write nothing but the number.
 fn write_answer(r: WriteAnswer) -> Answer
-    ensures { λ a. ⌜ (textOf a ≡ answerText (writeNumber r) 0 0) × (a .digits ≤ 8) ⌝ }
+    ensures { λ a. ⌜ (textOf a ≡ answerText (writeNumber r) 0 0) × Short a ⌝ }
 {
     match r {
         WriteAnswer::Done => done(),
@@ -74,7 +74,7 @@ fn write_answer(r: WriteAnswer) -> Answer
 
 // After a tick eight digits of running cycles.
 fn tick_answer(r: TickAnswer) -> Answer
-    ensures { λ a. ⌜ (textOf a ≡ answerText (tickNumber r) 8 (tickValue r)) × (a .digits ≤ 8) ⌝ }
+    ensures { λ a. ⌜ (textOf a ≡ answerText (tickNumber r) 8 (tickValue r)) × Short a × (a .value ≡ tickValue r) ⌝ }
 {
     match r {
         TickAnswer::Ran(n) => Answer {
@@ -124,7 +124,7 @@ fn do_write(
 // A tick, and the running cycles.
 fn do_tick(state: &mut [u8], ram: &mut [u8], store: &[u8], n: u32) -> Answer
     requires { ⌜ isRecord (now state) ≡ true ⌝ }
-    ensures { λ r. ⌜ Obeys 8 (tickMeans (decoded (now (state .entry))) (now (ram .entry)) (now (store .entry)) n) (now (state .exit)) r (now (ram .exit)) (now (store .entry)) ⌝ }
+    ensures { λ r. ⌜ Obeys 8 (tickMeans (decoded (now (state .entry))) (now (ram .entry)) (now (store .entry)) n) (now (state .exit)) r (now (ram .exit)) (now (store .entry)) × (r .value ≡ tickMeans (decoded (now (state .entry))) (now (ram .entry)) (now (store .entry)) n .value) ⌝ }
 {
     tick_answer(calls::tick(state, ram, store, n))
 }
@@ -141,7 +141,7 @@ pub fn bytes_of(c: Controller) -> [u8; 121]
 // The reset state in a record's bytes.
 fn do_reset(state: &mut [u8]) -> Answer
     requires { ⌜ isRecord (now state) ≡ true ⌝ }
-    ensures { λ a. ⌜ (isRecord (now (state .exit)) ≡ true) × (decoded (now (state .exit)) ≡ resetState) × (textOf a ≡ answerText 0 0 0) × (a .digits ≤ 8) ⌝ }
+    ensures { λ a. ⌜ (isRecord (now (state .exit)) ≡ true) × (decoded (now (state .exit)) ≡ resetState) × (textOf a ≡ answerText 0 0 0) × Short a ⌝ }
 {
     encode(Controller::reset(), state);
     done()
@@ -150,13 +150,36 @@ fn do_reset(state: &mut [u8]) -> Answer
 // An image row: refused where the image is not 16,384 bytes.
 fn do_row(image: &mut [u8], line: &[u8], y: u8) -> Answer
     requires { ⌜ frameOf (now line) ≡ Frame.Row y ⌝ }
-    ensures { λ a. ⌜ (now (image .exit) ≡ rowImage (now (line .entry)) (now (image .entry)) y) × (textOf a ≡ rowText (now (image .entry))) × (a .digits ≤ 8) ⌝ }
+    ensures { λ a. ⌜ (now (image .exit) ≡ rowImage (now (line .entry)) (now (image .entry)) y) × (textOf a ≡ rowText (now (image .entry))) × Short a ⌝ }
 {
     if image.len() != Controller::FRAME {
         return refused(Refusal::Frame);
     }
     take_row(image, line, y as usize);
     done()
+}
+
+// Carries out the frame that a line says.
+pub fn carry_out(
+    state: &mut [u8],
+    rom: &[u8],
+    ram: &mut [u8],
+    store: &mut [u8],
+    image: &mut [u8],
+    line: &[u8],
+    frame: Frame,
+) -> Answer
+    requires { ⌜ (isRecord (now state) ≡ true) × (frame ≡ frameOf (now line)) ⌝ }
+    ensures { λ a. ⌜ Carried (now (rom .entry)) (now (line .entry)) (world (decoded (now (state .entry))) (now (ram .entry)) (now (store .entry)) (now (image .entry))) frame a (world (decoded (now (state .exit))) (now (ram .exit)) (now (store .exit)) (now (image .exit))) × (isRecord (now (state .exit)) ≡ true) ⌝ }
+{
+    match frame {
+        Frame::Reset => do_reset(state),
+        Frame::Read(a) => do_read(state, rom, ram, a),
+        Frame::Write(a, v) => do_write(state, ram, store, image, a, v),
+        Frame::Tick(n) => do_tick(state, ram, store, n),
+        Frame::Row(y) => do_row(image, line, y),
+        Frame::Malformed => refused(Refusal::Line),
+    }
 }
 
 // Carries out a line.
@@ -172,14 +195,7 @@ pub(crate) fn obey(
     ensures { λ a. ⌜ (step (world (decoded (now (state .exit))) (now (ram .exit)) (now (store .exit)) (now (image .exit))) (textOf a) ≡ stepOf (now (rom .entry)) (world (decoded (now (state .entry))) (now (ram .entry)) (now (store .entry)) (now (image .entry))) (now (line .entry))) × (isRecord (now (state .exit)) ≡ true) × (a .digits ≤ 8) ⌝ }
 {
     let frame = frame_of(line);
-    match frame {
-        Frame::Reset => do_reset(state),
-        Frame::Read(a) => do_read(state, rom, ram, a),
-        Frame::Write(a, v) => do_write(state, ram, store, image, a, v),
-        Frame::Tick(n) => do_tick(state, ram, store, n),
-        Frame::Row(y) => do_row(image, line, y),
-        Frame::Malformed => refused(Refusal::Line),
-    }
+    carry_out(state, rom, ram, store, image, line, frame)
 }
 
 // Carries out a line and puts its answer into a buffer, and returns where it ends.

@@ -1,4 +1,5 @@
 -- `session::session::do_tick` meets its contract: the call's outcome, and its answer's text. Assumes nothing.
+use mathlib.Core.Path.{_∙_}
 use Rattle.calls.proofs.Left.{tick-whole}
 use Rattle.session.proofs.Steps.{obeys-left}
 use borrow.Author.Needs.{needs}
@@ -21,7 +22,8 @@ returns : tie.Need-returns
 returns c =
     let s = c .before .before .before .before .before .before .before .before .before .before .before in
     let a = s .args in
-    obeys-left 8 _ _ _ _ _ _ _ (c .before .before .before .before .before .tick .ensures) (tick-whole (a .state .now) (a .ram .now) (a .store .now) (λ k. c .before .before .before .before .before .before .before .before .before .before .slice-known .given k .fits) (s .pre) (a .n)) (c .tick-answer .ensures .0) (c .tick-answer .ensures .1)
+    let e = c .before .before .before .before .before .tick .ensures in
+    (obeys-left 8 _ _ _ _ _ _ _ e (tick-whole (a .state .now) (a .ram .now) (a .store .now) (λ k. c .before .before .before .before .before .before .before .before .before .before .slice-known .given k .fits) (s .pre) (a .n)) (c .tick-answer .ensures .0) (c .tick-answer .ensures .1), c .tick-answer .ensures .2 ∙ (λ i. e i .value))
 
 pub do-tick-spec : {M : Type 1} → statement M
 do-tick-spec =

@@ -7,7 +7,7 @@ use Rattle.session.proofs.session.done.Tie as tie
 
 returns : tie.Need-returns
 unfolding answerText
-returns c = (refl, omega arith)
+returns c = (refl, record { few = omega arith; small = omega arith })
 
 pub done-spec : {M : Type 1} → statement M
 done-spec = tie.close (tie.spec

@@ -9,7 +9,7 @@ use Rattle.session.proofs.session.read_answer.Tie as tie
 
 returns : tie.Need-returns
 unfolding answerText
-returns c = (rw (c .before .r .given .1) refl, omega arith)
+returns c = (rw (c .before .r .given .1) refl, record { few = omega arith; small = omega arith })
 
 returns-2 : tie.Need-returns-2
 returns-2 c =

@@ -9,12 +9,12 @@ use Rattle.session.proofs.session.tick_answer.Tie as tie
 
 returns : tie.Need-returns
 unfolding answerText
-returns c = (rw (c .before .r .given .1) refl, omega arith)
+returns c = (rw (c .before .r .given .1) refl, record { few = omega arith; small = omega arith }, rw (c .before .r .given .1) refl)
 
 returns-2 : tie.Need-returns-2
 returns-2 c =
     let n = c .before .before .r2 .given .0 .0 in
-    (rw (c .before .before .r2 .given .1) (c .refused .ensures .0 ∙ refused-text n 0 0 ∙ sym (refused-text n 8 0)), c .refused .ensures .1)
+    (rw (c .before .before .r2 .given .1) (c .refused .ensures .0 ∙ refused-text n 0 0 ∙ sym (refused-text n 8 0)), c .refused .ensures .1, rw (c .before .before .r2 .given .1) (c .refused .ensures .2))
 
 pub tick-answer-spec : {M : Type 1} → statement M
 tick-answer-spec =

@@ -1,0 +1,2 @@
+-- Laws of stretches that changed.
+pub mod Stretches

@@ -1,0 +1,2 @@
+-- What outside the picture area changed.
+pub mod Changes
