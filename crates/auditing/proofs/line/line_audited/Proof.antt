@@ -1,0 +1,93 @@
+-- `auditing::line::line_audited` meets its contract: what is seen of the two records is what is seen of the call. Assumes nothing.
+use mathlib.Core.Path.{_≡_, sym, _∙_}
+use native.Mathlib.Omega.{arith}
+use Rattle.calls.proofs.Bytes.{long, part-at, part-long, taken-at}
+use Rattle.auditing.proofs.Lines.{end-allowed, line-audits}
+use borrow.Author.Needs.{needs}
+use Rattle.auditing.proofs.line.line_audited.Statement.{statement}
+use Rattle.auditing.proofs.line.line_audited.Tie as tie
+
+frame-of-requires : tie.Need-frame-of-requires
+frame-of-requires c κs = search needs
+
+asks-of-requires : tie.Need-asks-of-requires
+asks-of-requires c κs = search needs
+
+look-requires : tie.Need-look-requires
+look-requires c κs = search needs
+
+carry-out-requires : tie.Need-carry-out-requires
+carry-out-requires c κs = search needs
+
+look-requires-2 : tie.Need-look-requires-2
+look-requires-2 c κs = search needs
+
+landed-requires : tie.Need-landed-requires
+landed-requires c κs = search needs
+
+kind-of-requires : tie.Need-kind-of-requires
+kind-of-requires c κs = search needs
+
+facts-of-requires : tie.Need-facts-of-requires
+facts-of-requires c κs = search needs
+
+sub-entered : tie.Need-sub-entered
+sub-entered c = omega (arith, long _ (c .before .before .before .before .before .before .before .before .before .before .before .before .before .before .before .before .carry-out .ensures .1))
+
+part-entered-start : tie.Need-part-entered-start
+part-entered-start c = omega (arith, long _ (c .before .before .before .before .before .before .before .before .before .before .before .before .before .before .before .before .before .carry-out .ensures .1))
+
+part-entered-end : tie.Need-part-entered-end
+part-entered-end c = search needs
+
+entered-requires : tie.Need-entered-requires
+entered-requires c κs =
+    let j = c .before .before .before .before .before .before in
+    (j .before .before .before .before .before .before .before .before .before .before .before .before .before .before .before .before .before .before .before .before .before .before .before .before .before .before .before .before .before .before .before .pre .1, j .before .before .before .before .before .before .before .before .before .before .before .before .before .before .before .before .before .before .before .before .before .before .before .before .before .before .before .before .before .before .before .pre .2, part-long _ (j .before .before .before .before .before .before .before .before .before .before .before .before .before .carry-out .ensures .1), end-allowed _ _ (j .before .before .before .before .before .before .before .before .before .before .before .before .before .before .before .before .before .before .before .before .before .before .before .before .before .before .before .before .before .before .before .args .book .now) _ _ _ _ (j .before .before .before .before .before .before .before .before .before .before .before .before .before .before .before .before .before .before .before .before .before .before .frame-of .ensures) (j .before .before .before .before .before .before .before .before .before .before .before .before .before .carry-out .ensures .0) _ _ _ _ _ _ _ (j .before .before .before .before .before .before .before .before .before .before .before .before .before .before .before .before .before .before .before .before .asks-of .ensures) (j .before .before .before .before .before .before .before .before .before .before .before .before .before .before .before .before .before .before .look .ensures) (j .before .before .before .look2 .ensures) (j .before .before .landed .ensures) (j .before .kind-of .ensures) (j .facts-of .ensures) (part-at _ (j .before .before .before .before .before .before .before .before .before .before .before .before .before .carry-out .ensures .1) ∙ sym (taken-at _)))
+
+same-length : tie.Need-same-length
+same-length c = search needs
+
+same-length-2 : tie.Need-same-length-2
+same-length-2 c = c .before .before .before .before .before .before .before .before .before .before .before .before .before .before .before .before .before .before .before .before .before .before .before .state .given
+
+same-length-3 : tie.Need-same-length-3
+same-length-3 c = c .before .before .before .before .before .before .before .before .before .before .before .before .before .before .before .before .before .before .before .before .before .ram .given
+
+same-length-4 : tie.Need-same-length-4
+same-length-4 c = search needs
+
+same-length-5 : tie.Need-same-length-5
+same-length-5 c = search needs
+
+same-length-6 : tie.Need-same-length-6
+same-length-6 c = search needs
+
+returns : tie.Need-returns
+returns c =
+    let j = c .before .before .before .before .before .before .before .before .before .before .before in
+    (line-audits _ _ (j .before .before .before .before .before .before .before .before .before .before .before .before .before .before .before .before .before .before .before .before .before .before .before .before .before .before .before .before .before .before .before .args .book .now) _ _ _ _ (j .before .before .before .before .before .before .before .before .before .before .before .before .before .before .before .before .before .before .before .before .before .before .frame-of .ensures) (j .before .before .before .before .before .before .before .before .before .before .before .before .before .carry-out .ensures .0) _ _ _ _ _ _ _ (j .before .before .before .before .before .before .before .before .before .before .before .before .before .before .before .before .before .before .before .before .asks-of .ensures) (j .before .before .before .before .before .before .before .before .before .before .before .before .before .before .before .before .before .before .look .ensures) (j .before .before .before .look2 .ensures) (j .before .before .landed .ensures) (j .before .kind-of .ensures) (j .facts-of .ensures) (part-at _ (j .before .before .before .before .before .before .before .before .before .before .before .before .before .carry-out .ensures .1) ∙ sym (taken-at _)) _ _ _ _ _ (c .before .before .before .before .entered .ensures), j .before .before .before .before .before .before .before .before .before .before .before .before .before .carry-out .ensures .1)
+
+pub line-audited-spec : {M : Type 1} → statement M
+line-audited-spec =
+    tie.close
+    (tie.spec
+    frame-of-requires
+    asks-of-requires
+    look-requires
+    carry-out-requires
+    look-requires-2
+    landed-requires
+    kind-of-requires
+    facts-of-requires
+    sub-entered
+    part-entered-start
+    part-entered-end
+    entered-requires
+    same-length
+    same-length-2
+    same-length-3
+    same-length-4
+    same-length-5
+    same-length-6
+    returns)

@@ -1,0 +1,95 @@
+// One line of a recording: it is carried out, counted, and its event is put into a lent buffer.
+use super::book::LINES;
+use super::book::count_event;
+use super::book::count_line;
+use super::book::one_more;
+use super::event::Facts;
+use super::event::Kind;
+use super::event::event_of;
+use super::event::facts_of;
+use super::event::kind_of;
+use super::event::landed;
+use super::sight::asks_of;
+use super::sight::look;
+use super::text::put_event;
+use lines::line::frame_of;
+use session::session::carry_out;
+ghost use mathlib.Core.Path.{_≡_};
+ghost use mathlib.Core.Bool.{true};
+ghost use Prim.Native.Nat.{_+_, _≤_};
+ghost use lib.ListN.{length};
+ghost use Rattle.timing.specs.Lent.{ramAllowed};
+ghost use Rattle.layout.specs.Layout.{isRecord, decoded};
+ghost use Rattle.session.specs.Session.{world};
+ghost use Rattle.auditing.specs.Line.{auditOf};
+ghost use Rattle.auditing.specs.Aside.{eventBy, Entered, Audits};
+
+// Counts a line and its event, and puts its event's text at a place of a buffer.
+fn entered(
+    book: &mut [u64],
+    kind: Kind,
+    facts: Facts,
+    malformed: bool,
+    row: bool,
+    number: u32,
+    image: &[u8],
+    ram: &[u8],
+    registers: &[u8],
+    out: &mut [u8],
+    at: usize,
+) -> usize
+    requires { ⌜ (length (now book) ≡ 13) × (at + 256 ≤ length (now out)) × (length (now registers) ≡ 54) × (kind ≡ Kind.End → ramAllowed (length (now ram)) ≡ true) ⌝ }
+    ensures { λ r. ⌜ Entered (now (book .entry)) malformed row number (eventBy (now (book .entry)) (now (image .entry)) (now (ram .entry)) (now (registers .entry)) facts kind) (now (out .entry)) at (now (book .exit)) (now (out .exit)) r ⌝ }
+{
+    let line = one_more(book[LINES]);
+    let seen = event_of(kind, book, image, ram, facts);
+    count_line(book, malformed, row, number);
+    count_event(book, seen);
+    put_event(out, at, line, seen, registers)
+}
+
+// Carries out a line of a recording, counts it, and puts its event at a place of a buffer; returns the place after it.
+pub fn line_audited(
+    book: &mut [u64],
+    state: &mut [u8],
+    rom: &[u8],
+    ram: &mut [u8],
+    store: &mut [u8],
+    image: &mut [u8],
+    line: &[u8],
+    out: &mut [u8],
+    at: usize,
+) -> usize
+    requires { ⌜ (isRecord (now state) ≡ true) × (length (now book) ≡ 13) × (at + 256 ≤ length (now out)) ⌝ }
+    ensures { λ r. ⌜ Audits (auditOf (now (rom .entry)) (world (decoded (now (state .entry))) (now (ram .entry)) (now (store .entry)) (now (image .entry))) (now (book .entry)) (now (line .entry))) (world (decoded (now (state .exit))) (now (ram .exit)) (now (store .exit)) (now (image .exit))) (now (out .entry)) at (now (book .exit)) (now (out .exit)) r × (isRecord (now (state .exit)) ≡ true) ⌝ }
+{
+    let frame = frame_of(line);
+    let asks = asks_of(state, frame);
+    let before = look(state);
+    let length = ram.len();
+    let answer = carry_out(state, rom, ram, store, image, line, frame);
+    let after = look(state);
+    let lands = landed(asks.goes, answer.number);
+    let kind = kind_of(
+        before.held,
+        before.running,
+        after.held,
+        after.running,
+        asks.reset,
+        lands,
+    );
+    let facts = facts_of(before, after.serial, asks, length, answer.value);
+    entered(
+        book,
+        kind,
+        facts,
+        asks.malformed,
+        asks.row,
+        answer.number,
+        image,
+        ram,
+        &state[67..],
+        out,
+        at,
+    )
+}
