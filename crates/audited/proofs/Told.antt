@@ -283,7 +283,7 @@ module _ (rom ram store image : List ℕ) where
           }
 
     -- two are one
-    pub one-begun : {serial : ℕ} (s other : Begun rom w₀ lines serial) → OneBegun s other
+    pub one-begun : {serial n : ℕ} (s : Begun rom w₀ lines serial) (other : Begun rom w₀ lines n) → OneBegun s other
     unfolding to-start
     one-begun s other =
         let o : callsOf rom w₀ (other .before) ≡ callsOf rom w₀ (s .before) = only-start (to-start s) (to-start other) .before in
@@ -347,7 +347,7 @@ module _ (rom ram store image : List ℕ) where
       unfolding the-begun
       started-with more cycles e = record {
         begun = the-begun;
-        one = one-begun the-begun;
+        one = λ n other. one-begun the-begun other;
         address = s .address;
         byte = s .byte;
         write = is-write .0;
@@ -662,7 +662,7 @@ module _ (rom ram store image : List ℕ) (lines : List (List ℕ)) (line : List
       subst (λ (n : ℕ). LandedTold rom w₀ lines line n spot byte) (is .serial)
       (record {
         begun = g;
-        one = one-begun rom ram store image lines g;
+        one = λ n other. one-begun rom ram store image lines g other;
         address = t .0;
         write = t .1 ∙ ap (Write (t .0)) (is .byte);
         lands = ap (landsSeen (found here) call) (sym (is .place)) ∙ is .lands;
