@@ -59,18 +59,20 @@ extern "C" {
 #define GULXINETT_PICTURE_LEN 3584
 #define GULXINETT_PLATE_LEN 14351
 #define GULXINETT_SHADES_LEN 14336
+#define GULXINETT_ROWS_LEN 112
 
-/* An image row, and the longest script line with its LF, which is a row's. */
+/* An image row, the longest script line with its LF, which is a row's, and the longest answer with its LF. */
 #define GULXINETT_ROW_LEN 128
 #define GULXINETT_LINE_LEN 261
+#define GULXINETT_ANSWER_LEN 11
 
 /* The most bytes of a script that is salvaged. */
 #define GULXINETT_SCRIPT_LEN 32768
 
 /* Bytes of stack below the caller's frame that suffice for any call here, compiled for x86-64, for
  * aarch64 or for the browser. No function here recurs, and what is large is lent, but for the light
- * of an image in gulxinett_picture; tests/stack works the need of each function out from the
- * compiled frames. */
+ * of an image in gulxinett_picture and gulxinett_judge, and the picture of the latter; tests/stack works
+ * the need of each function out from the compiled frames. */
 #define GULXINETT_STACK 24576
 
 /* A save has its RAM's length and SAVE_LEN bytes more: the magic, the RAM's banks, the state record from
@@ -160,6 +162,20 @@ uint64_t gulxinett_record_row(uint8_t row,
                               const uint8_t *bytes, size_t bytes_len,
                               uint8_t *out, size_t out_len);
 
+/* One line of such a script, without its LF, carried out as the program `bus` does it: a reset, a read, a write,
+ * a tick, or a row put into the image. Its answer, in upper-case hexadecimal with its LF, is put at the start
+ * of out; bytes beyond stay. Refused as 1 for bytes that are no record, then as 7 if out_len is smaller than
+ * GULXINETT_ANSWER_LEN; nothing else is refused: a refusal of the line is its answer. A record that can't exist
+ * is a record: read, write and tick answer 01 and a reset mends it. A row looks at the image alone. A malformed
+ * line answers 06 before anything lent is looked at. Value: the answer's length with the LF. */
+uint64_t gulxinett_step(uint8_t *state, size_t state_len,
+                        const uint8_t *rom, size_t rom_len,
+                        uint8_t *ram, size_t ram_len,
+                        uint8_t *store, size_t store_len,
+                        uint8_t *image, size_t image_len,
+                        const uint8_t *line, size_t line_len,
+                        uint8_t *out, size_t out_len);
+
 /* Writes the picture area of RAM bank 0 as a grey image, a Netpbm file of kind P5: 128 by 112 pixels,
  * 14,351 bytes; bytes beyond stay. The RAM is read straight: a half picture is written as it
  * stands. Refused as 3, then as 7. Value: 14351. */
@@ -178,6 +194,16 @@ uint64_t gulxinett_place(const uint8_t *state, size_t state_len,
  * Refused as 3, then as 7. Value: 14336. */
 uint64_t gulxinett_shades(const uint8_t *ram, size_t ram_len,
                           uint8_t *out, size_t out_len);
+
+/* Judges a plate, the 3,584 bytes of a picture area, row by row: rows[y] becomes 1 where all 32 bytes of row y
+ * (0 to 111) are those of the picture that gulxinett_picture draws of this frame under these 54 registers
+ * taken, else 0; bytes beyond GULXINETT_ROWS_LEN stay. Row y is the bytes 256 * (y / 8) + 2 * (y % 8) + 16 * t
+ * and the next, t from 0 to 15. plate is exactly 3,584 bytes, registers exactly 54. Refused as 4, then as 7.
+ * Value: how many rows are equal; 112 exactly when the plate is that picture. */
+uint64_t gulxinett_judge(const uint8_t *plate,
+                         const uint8_t *frame, size_t frame_len,
+                         const uint8_t *registers,
+                         uint8_t *rows, size_t rows_len);
 
 /* Writes the reading of each picture pixel, its value 0 to 255 before the matrix makes a shade of it, as a
  * grey image like gulxinett_export's: from the frame store and the registers taken of the capture held, all

@@ -17,6 +17,8 @@ export const RAM_BANK: 8192;
 export const FRAME_BYTES: 16384;
 /** Bytes of a picture: two bits for each of 128 by 112 pixels. */
 export const PICTURE_BYTES: 3584;
+/** Rows of a picture. */
+export const PICTURE_ROWS: 112;
 /** Where the picture lies in RAM bank 0. */
 export const PICTURE_OFFSET: 256;
 /** Bytes of a plate as a Netpbm P5 file: a header of 15, then one for each of 128 by 112 pixels. */
@@ -111,6 +113,11 @@ export interface Cartridge {
   /** Lets cycles pass; how many of them fell while a capture was running. */
   tick(cycles: number): number;
   /**
+   * Carries out a line of a bus script, without its LF, as the program `bus` does; its answer, with the LF. A malformed line
+   * is answered `06` and changes nothing; a recorder has every other as it is.
+   */
+  step(line: Bytes): Uint8Array;
+  /**
    * Writes the matrix and the exposure registers as chosen, and nothing else: a capture held goes on with the registers
    * of its start. A recorder has it as the bus writes that it amounts to, unless it is refused.
    */
@@ -166,11 +173,38 @@ export interface CartridgeClass {
   fromBattery(ram: Bytes, given?: { rom?: Bytes }): Cartridge;
 }
 
+/**
+ * A recording, a bus script of any length, that is played in pieces, and what is said of it: events, each a line of keys and
+ * values with its LF. docs/AUDIT.md of the repository has them. Memory does not grow with the recording.
+ */
+export interface Audit {
+  /** Plays a piece of the recording, which may end anywhere; the events of the lines that ended in it. */
+  feed(piece: Bytes): string[];
+  /**
+   * Ends the recording and gives the memory back; the events of a last line without LF, of the capture that is held, of what has
+   * changed outside the picture area, and the summary.
+   */
+  finish(): string[];
+  /** Gives the memory back of a recording that was not ended; closing twice is no error. */
+  close(): void;
+}
+
+export interface AuditClass {
+  /** Begins as the program `bus` does, with one bank of RAM full of FF, or with the RAM of a battery save. */
+  new (given?: { ram?: Bytes }): Audit;
+}
+
 /** A loaded module. Its cartridges share one memory, which grows as they need it. */
 export interface Gulxinett {
   Cartridge: CartridgeClass;
+  Audit: AuditClass;
   /** The whole picture of a frame under 54 registers taken, as RAM bank 0 gets it from offset 100h on. */
   picture(frame: Bytes, registers: Bytes): Uint8Array;
+  /**
+   * Which rows of a picture area, 3,584 bytes, are those of the picture of a frame under 54 registers taken: a byte for each of
+   * the 112 rows, 1 for the same and 0 for another.
+   */
+  judge(area: Bytes, frame: Bytes, registers: Bytes): Uint8Array;
   /**
    * Keeps the accepted lines of a bus script of at most 32,768 bytes, in order and unaltered; where they are a sequence that
    * starts with reset followed by itself, one half of them, again until they are not. A last line without LF gains one.

@@ -18,6 +18,8 @@ export const RAM_BANK = 8_192;
 export const FRAME_BYTES = 16_384;
 /** Bytes of a picture: two bits for each of 128 by 112 pixels. */
 export const PICTURE_BYTES = 3_584;
+/** Rows of a picture. */
+export const PICTURE_ROWS = 112;
 /** Where the picture lies in RAM bank 0. */
 export const PICTURE_OFFSET = 0x100;
 
@@ -32,6 +34,11 @@ export const SCRIPT_BYTES = 32_768;
 
 /** The exposure that names none. */
 const UNNAMED = 0x1_0000;
+/** Bytes of the longest answer to a script line, that of a tick, with its LF. */
+const ANSWER_BYTES = 11;
+/** Numbers that are kept of a recording that is audited, eight bytes each, and room for the events of a line. */
+const BOOK_WORDS = 13;
+const EVENTS_BYTES = 512;
 
 /** Where RAM write enable, select, the two counts of captures and the registers stand in the state record. */
 const ENABLE_OFFSET = 1;
@@ -117,7 +124,7 @@ async function download(source) {
   return answer.arrayBuffer();
 }
 
-/** What is called on a module: one `Cartridge` class, `picture` and `salvage`, over its memory. */
+/** What is called on a module, over its memory: the classes `Cartridge` and `Audit`, `picture`, `judge` and `salvage`. */
 function bound(exports) {
   const memory = new Memory(exports.memory, exports.__heap_base.value);
 
@@ -146,6 +153,20 @@ function bound(exports) {
     return withCopies(named, ({ frame, registers, area }) => {
       valueOf(exports.gulxinett_picture(...lent(frame), registers.address, area.address));
       return area.bytes.slice();
+    });
+  }
+
+  /** Which rows of a picture area are those of the picture of a frame under the registers taken: 1 for each that is. */
+  function judge(area, frame, registers) {
+    const named = {
+      area: exactly(PICTURE_BYTES, "the area", area),
+      frame: bytesOf("the frame", frame),
+      registers: exactly(REGISTERS, "the registers", registers),
+      rows: new Uint8Array(PICTURE_ROWS),
+    };
+    return withCopies(named, ({ area, frame, registers, rows }) => {
+      valueOf(exports.gulxinett_judge(area.address, ...lent(frame), registers.address, ...lent(rows)));
+      return rows.bytes.slice();
     });
   }
 
@@ -301,6 +322,23 @@ function bound(exports) {
       return valueOf(exports.gulxinett_tick(...this.#ticking, cycles));
     }
 
+    /** Carries out a line of a bus script, without its LF, as the program `bus` does; its answer, with the LF. */
+    step(line) {
+      const { state, rom, ram, store, image } = this.#open();
+      const bytes = bytesOf("the line", line);
+      this.#recorder?.beforeLine(image.bytes);
+      const named = { line: bytes, out: new Uint8Array(ANSWER_BYTES) };
+      const answer = withCopies(named, ({ line, out }) => {
+        const length = valueOf(exports.gulxinett_step(...lent(state, rom, ram, store, image, line, out)));
+        return out.bytes.slice(0, length);
+      });
+      if (textOf(answer) === MALFORMED) return answer;
+      // a row is lent
+      if (textOf(bytes.subarray(0, 2)) === "04") this.#imageUntouched = false;
+      this.#recorder?.line(bytes);
+      return answer;
+    }
+
     /** Writes the matrix of a light set and a level, and the exposure; nothing else changes, and no capture held. */
     choose({ light, level, dithering = true, exposure } = {}) {
       const { image, state } = this.#open();
@@ -431,11 +469,93 @@ function bound(exports) {
     }
   }
 
-  return { Cartridge, picture, salvage };
+  class Audit {
+    /** The pieces of memory that are this recording's; none once it has ended. */
+    #kept;
+    /** What a recording is played over. */
+    #session;
+
+    constructor({ ram } = {}) {
+      const begun = new Cartridge({ ram });
+      const parts = begun.parts();
+      begun.close();
+      this.#kept = memory.keep({
+        book: new Uint8Array(8 * BOOK_WORDS),
+        line: new Uint8Array(LINE_BYTES),
+        state: parts.state,
+        rom: filled(ROM_BANK, 0xff),
+        ram: parts.ram,
+        store: parts.store,
+        image: filled(FRAME_BYTES, 0),
+        first: parts.ram,
+        out: new Uint8Array(EVENTS_BYTES),
+      });
+      const { book, line, state, rom, ram: played, store, image } = this.#kept;
+      this.#session = [...lentBook(book), ...lent(line, state, rom, played, store, image)];
+    }
+
+    #open() {
+      if (!this.#kept) throw new Error("the recording has ended");
+      return this.#kept;
+    }
+
+    /** The events that a call has written. */
+    #said() {
+      const { book, out } = this.#kept;
+      const length = new DataView(book.bytes.buffer, book.address).getUint32(0, true);
+      return textOf(out.bytes.subarray(0, length)).match(/.*\n/g) ?? [];
+    }
+
+    /** Plays a piece of the recording, which may end anywhere; the events of the lines that ended in it. */
+    feed(piece) {
+      const { out } = this.#open();
+      return withCopies({ piece: bytesOf("the piece", piece) }, ({ piece }) => {
+        const events = [];
+        for (let place = 0; place < piece.length; ) {
+          const rest = { address: piece.address + place, length: piece.length - place };
+          place += valueOf(exports.gulxinett_audit(...this.#session, ...lent(rest, out)));
+          events.push(...this.#said());
+        }
+        return events;
+      });
+    }
+
+    /** Ends the recording and gives the memory back; what is said of its end, the summary last. */
+    finish() {
+      const { book, state, ram, first, out } = this.#open();
+      valueOf(exports.gulxinett_audit_end(...this.#session, ...lent(out)));
+      const events = this.#said();
+      for (let place = 0; place < ram.length; ) {
+        place = valueOf(exports.gulxinett_audit_changed(...lentBook(book), ...lent(first, ram), place, ...lent(out)));
+        events.push(...this.#said());
+      }
+      valueOf(exports.gulxinett_audit_summary(...lentBook(book), ...lent(state, out)));
+      events.push(...this.#said());
+      this.close();
+      return events;
+    }
+
+    /** Gives the memory back; every later call but this one is an error. */
+    close() {
+      if (this.#kept) memory.release(this.#kept);
+      this.#kept = undefined;
+    }
+  }
+
+  return { Cartridge, Audit, picture, judge, salvage };
 }
 
 /** Pieces as the functions take them: address and length of each. */
 const lent = (...pieces) => pieces.flatMap(({ address, length }) => [address, BigInt(length)]);
+
+/** A book as the functions take it: its address, and how many numbers it has. */
+const lentBook = ({ address, length }) => [address, BigInt(length / 8)];
+
+/** Bytes that are letters, digits and LF, as text. */
+const textOf = (bytes) => String.fromCharCode(...bytes);
+
+/** The answer to a line that is malformed, and to no other. */
+const MALFORMED = "06\n";
 
 const filled = (length, value) => new Uint8Array(length).fill(value);
 

@@ -5,6 +5,9 @@ export const ROW_BYTES = 128;
 /** Bytes of the longest line, that of a row, with its LF. */
 export const LINE_BYTES = 261;
 
+/** What ends a line. */
+const LF = Uint8Array.of(0x0a);
+
 /** Whether a choice writes a register: the exposure's two and the matrix. */
 const isChosen = (number) => number === 2 || number === 3 || number >= 6;
 
@@ -39,9 +42,20 @@ export class Recorder {
     this.#append(this.#lines[kind](...words));
   }
 
+  /** A line is about to be carried out, which may be a write: the image may have to be told first. */
+  beforeLine(image) {
+    if (!this.#imageKnown) this.lend(image, image);
+  }
+
+  /** Notes a line that was carried out, without its LF. */
+  line(bytes) {
+    this.#append(bytes);
+    this.#append(LF);
+  }
+
   /** Notes a write; it is lent the image, which may have to be told first. */
   write(image, address, value) {
-    if (!this.#imageKnown) this.lend(image, image);
+    this.beforeLine(image);
     this.note("write", address, value);
   }
 

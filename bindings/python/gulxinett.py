@@ -29,6 +29,8 @@ RAM_BANK = 8_192
 FRAME_BYTES = 16_384
 #: Bytes of a picture: two bits for each of 128 by 112 pixels.
 PICTURE_BYTES = 3_584
+#: Rows of a picture.
+PICTURE_ROWS = 112
 #: Where the picture lies in RAM bank 0.
 PICTURE_OFFSET = 0x100
 
@@ -59,6 +61,13 @@ _RAM_LENGTHS = tuple(RAM_BANK * banks for banks in (1, 2, 4, 8, 16))
 _ROW_BYTES = 128
 # Bytes of the longest line of a script, that of a row, with its LF.
 _LINE_BYTES = 261
+# Bytes of the longest answer to a line, that of a tick, with its LF.
+_ANSWER_BYTES = 11
+# The answer to a line that is malformed, and to no other.
+_MALFORMED = b"06\n"
+# Numbers that are kept of a recording that is audited, and room for the events of a line.
+_BOOK_WORDS = 13
+_EVENTS_BYTES = 512
 
 # What each refusal number says.
 _SENTENCES = {
@@ -79,6 +88,7 @@ _SENTENCES = {
 # What each function is given: lent memory is a place and a length, a bare place has a length that is settled.
 _PLACE = ctypes.POINTER(ctypes.c_ubyte)
 _LENT = (_PLACE, ctypes.c_size_t)
+_BOOK = (ctypes.POINTER(ctypes.c_uint64), ctypes.c_size_t)
 _FUNCTIONS = {
     "reset": _LENT,
     "read": _LENT * 3 + (ctypes.c_uint16,),
@@ -100,6 +110,12 @@ _FUNCTIONS = {
     "salvage": _LENT * 3,
     "save": _LENT * 4,
     "restore": _LENT * 4,
+    "judge": (_PLACE,) + _LENT + (_PLACE,) + _LENT,
+    "step": _LENT * 7,
+    "audit": _BOOK + _LENT * 8,
+    "audit_end": _BOOK + _LENT * 7,
+    "audit_changed": _BOOK + _LENT * 2 + (ctypes.c_uint32,) + _LENT,
+    "audit_summary": _BOOK + _LENT * 2,
 }
 
 
@@ -208,6 +224,14 @@ def _memory(what, value):
     return (ctypes.c_ubyte * view.nbytes).from_buffer_copy(view.tobytes())
 
 
+def _exactly(length, what, value):
+    """A copy of bytes of which there must be so many."""
+    memory = _memory(what, value)
+    if len(memory) != length:
+        raise ValueError("%s must be %d bytes, not %d" % (what, length, len(memory)))
+    return memory
+
+
 def _up_to(most, what, value):
     """A whole number from 0 to the most there is."""
     try:
@@ -239,12 +263,19 @@ def _of_its_layout(refusal, state):
 
 def picture(frame, registers):
     """The whole picture of a frame under 54 registers taken, as RAM bank 0 gets it from offset 100h on."""
-    frame, registers = _memory("the frame", frame), _memory("the registers", registers)
-    if len(registers) != REGISTERS:
-        raise ValueError("the registers must be %d bytes, not %d" % (REGISTERS, len(registers)))
+    frame, registers = _memory("the frame", frame), _exactly(REGISTERS, "the registers", registers)
     area = (ctypes.c_ubyte * PICTURE_BYTES)()
     _call("picture", *_lent(frame), registers, area)
     return bytes(area)
+
+
+def judge(area, frame, registers):
+    """Which rows of a picture area, 3,584 bytes, are those of the picture of a frame under 54 registers taken: a byte for
+    each of the 112 rows, 1 for the same and 0 for another."""
+    area, registers = _exactly(PICTURE_BYTES, "the area", area), _exactly(REGISTERS, "the registers", registers)
+    frame, rows = _memory("the frame", frame), (ctypes.c_ubyte * PICTURE_ROWS)()
+    _call("judge", area, *_lent(frame), registers, *_lent(rows))
+    return bytes(rows)
 
 
 def salvage(script):
@@ -302,10 +333,18 @@ class _Recorder:
         length = _call("record_" + kind, *words, *_lent(self._room))
         self.script += memoryview(self._room)[:length]
 
-    def write(self, image, address, value):
-        """Notes a write; it is lent the image, which may have to be told first."""
+    def before_line(self, image):
+        """A line is about to be carried out, which may be a write: the image may have to be told first."""
         if not self._image_known:
             self.lend(image, image)
+
+    def line(self, line):
+        """Notes a line that was carried out, without its LF."""
+        self.script += bytes(line) + b"\n"
+
+    def write(self, image, address, value):
+        """Notes a write; it is lent the image, which may have to be told first."""
+        self.before_line(image)
         self.note("write", address, value)
 
     def choose(self, image, state):
@@ -440,6 +479,22 @@ class Cartridge:
         self._note("tick", cycles)
         return _call("tick", *_lent(self._state, self._ram, self._store), cycles)
 
+    def step(self, line):
+        """Carries out a line of a bus script, without its LF, as the program `bus` does; its answer, with the LF. A
+        malformed line is answered `06` and changes nothing; a recorder has every other as it is."""
+        self._open()
+        line, answer = _memory("the line", line), (ctypes.c_ubyte * _ANSWER_BYTES)()
+        if self._recorder:
+            self._recorder.before_line(self._image)
+        length = _call("step", *_lent(self._state, self._rom, self._ram, self._store, self._image, line, answer))
+        answer = bytes(answer[:length])
+        if answer != _MALFORMED:
+            if bytes(line[:2]) == b"04":
+                self._image_untouched = False
+            if self._recorder:
+                self._recorder.line(line)
+        return answer
+
     def choose(self, *, light, level, dithering=True, exposure=None):
         """Writes the matrix of a light set (0 high light, 1 low light) and a level (0 the lowest contrast, 7 the default,
         15 the highest) and the exposure, 1000h if none is named; nothing else changes, and no capture held."""
@@ -558,3 +613,57 @@ class Cartridge:
 
     def __exit__(self, *_):
         self.close()
+
+
+class Audit:
+    """A recording, a bus script of any length, that is played in pieces, and what is said of it: events, each a line of
+    keys and values. docs/AUDIT.md has them. Memory does not grow with the recording.
+
+    It begins as the program `bus` does, with one bank of RAM full of FF, or with the RAM of a battery save.
+    """
+
+    def __init__(self, ram=None):
+        with Cartridge(ram=ram) as begun:
+            parts = begun.parts()
+        self._book = (ctypes.c_uint64 * _BOOK_WORDS)()
+        self._line = (ctypes.c_ubyte * _LINE_BYTES)()
+        self._out = (ctypes.c_ubyte * _EVENTS_BYTES)()
+        self._state, self._ram, self._store = (_memory("the parts", part) for part in parts)
+        self._rom, self._image = _memory("the ROM", b"\xff" * ROM_BANK), _memory("the image", bytes(FRAME_BYTES))
+        # the RAM before the first line
+        self._first = _memory("the RAM", parts.ram)
+        self._finished = False
+
+    def _played(self, name, *words):
+        """Lends a call all that a recording is played over; its value."""
+        if self._finished:
+            raise ValueError("the recording has ended")
+        session = _lent(self._state, self._rom, self._ram, self._store, self._image)
+        return _call(name, *_lent(self._book, self._line), *session, *words, *_lent(self._out))
+
+    def _said(self):
+        """The events that a call has written."""
+        return bytes(self._out[: self._book[0]]).decode("ascii").splitlines(keepends=True)
+
+    def feed(self, piece):
+        """Plays a piece of the recording, which may end anywhere; the events of the lines that ended in it, each a text
+        with its LF."""
+        piece = _memory("the piece", piece)
+        events, place = [], 0
+        while place < len(piece):
+            rest = ctypes.cast(ctypes.addressof(piece) + place, _PLACE)
+            place += self._played("audit", rest, len(piece) - place)
+            events += self._said()
+        return events
+
+    def finish(self):
+        """Ends the recording; the events of a last line without LF, of the capture that is held, of what has changed outside
+        the picture area, and the summary."""
+        self._played("audit_end")
+        self._finished = True
+        events, place = self._said(), 0
+        while place < len(self._ram):
+            place = _call("audit_changed", *_lent(self._book, self._first, self._ram), place, *_lent(self._out))
+            events += self._said()
+        _call("audit_summary", *_lent(self._book, self._state, self._out))
+        return events + self._said()

@@ -14,8 +14,8 @@ from pathlib import Path
 
 import gulxinett
 from gulxinett import (
-    FRAME_BYTES, LAYOUT, PICTURE_BYTES, RAM_BANK, REGISTERS, ROM_BANK, SCRIPT_BYTES, SHADES_BYTES, STATE_BYTES, Cartridge, Refusal,
-    Salvaged, layout_of, picture, salvage,
+    FRAME_BYTES, LAYOUT, PICTURE_BYTES, PICTURE_ROWS, RAM_BANK, REGISTERS, ROM_BANK, SCRIPT_BYTES, SHADES_BYTES, STATE_BYTES, Audit,
+    Cartridge, Refusal, Salvaged, judge, layout_of, picture, salvage,
 )
 
 ROOT = Path(__file__).resolve().parents[2]
@@ -223,6 +223,92 @@ class Salvage(unittest.TestCase):
         for none in (None, "00", 3, [48, 48]):
             with self.assertRaisesRegex(TypeError, "the script must be bytes"):
                 salvage(none)
+
+
+class Audits(unittest.TestCase):
+    SCRIPT = (ROOT / "tests/data/audited.script").read_bytes()
+    EVENTS = (ROOT / "tests/data/audited.events").read_text().splitlines(keepends=True)
+
+    def test_recordings_in_pieces(self):
+        for length in (1, 2, 7, 260, 261, len(self.SCRIPT)):
+            audit, events = Audit(), []
+            for place in range(0, len(self.SCRIPT), length):
+                events += audit.feed(self.SCRIPT[place : place + length])
+            self.assertEqual(events + audit.finish(), self.EVENTS, length)
+        summary = "line 0 event summary malformed 0 refused 0 captures 0 ended 0 whole 0 touched 0 dropped 0 held 0\n"
+        self.assertEqual(Audit().finish(), ["line 0 event unchanged\n", summary])
+
+    def test_events_come_with_their_lines(self):
+        audit = Audit()
+        self.assertEqual(audit.feed(b"02400010\n02A00003"), [])
+        (event,) = audit.feed(bytearray(b"\n"))
+        self.assertTrue(event.startswith("line 2 event start serial 1 "))
+        with self.assertRaisesRegex(TypeError, "the piece must be bytes, not str"):
+            audit.feed("00")
+        audit.finish()
+        for ended in (lambda: audit.feed(b"00\n"), audit.finish):
+            with self.assertRaisesRegex(ValueError, "the recording has ended"):
+                ended()
+
+    def test_recordings_over_a_battery_save(self):
+        # RAM writing on, a byte in the last of sixteen banks, one in the first that is rewritten the same
+        audit = Audit(bytes(16 * RAM_BANK))
+        self.assertEqual(audit.feed(b"0200000A\n0240000F\n02BFFF01\n02400000\n02A00000"), [])
+        events = audit.finish()
+        self.assertEqual((events[0], len(events)), ("line 5 event changed bank F from 1FFF to 1FFF\n", 2))
+        for length in (0, RAM_BANK - 1, 3 * RAM_BANK):
+            with self.assertRaises(Refusal) as caught:
+                Audit(bytes(length))
+            self.assertEqual(caught.exception.number, 3)
+
+    def test_lines_are_carried_out(self):
+        cartridge = Cartridge()
+        for line, answer in (
+            (b"02400010", b"00\n"), (b"02A00003", b"00\n"), (b"01A000", b"0003\n"), (b"0300010000", b"00000080BE\n"),
+            (b"018000", b"05\n"), (b"", b"06\n"), (b"01a000", b"06\n"), (b"00\n", b"06\n"), (b"0" * 1000, b"06\n"), (bytearray(b"00"), b"00\n"),
+        ):
+            self.assertEqual(cartridge.step(line), answer, line)
+        with self.assertRaisesRegex(TypeError, "the line must be bytes, not str"):
+            cartridge.step("00")
+
+    def test_recordings_are_stepped_through(self):
+        session, player = begun(1), Cartridge()
+        session.record()
+        session.write(0xA000, 2)
+        player.record()
+        for line in session.recording().splitlines():
+            self.assertEqual(player.step(line)[:2], b"00")
+            player.step(b"xx")
+        self.assertEqual(player.recording(), session.recording())
+        # a row that was stepped through is an image that a script does not begin with
+        image = bytes(5 * 128) + b"\x5a" * 128 + bytes(122 * 128)
+        cartridge = Cartridge()
+        self.assertEqual(cartridge.step(row_lines(image, [5])[:-1]), b"00\n")
+        cartridge.record()
+        cartridge.step(b"02400010")
+        self.assertEqual(cartridge.recording(), row_lines(image, range(128)) + b"02400010\n")
+
+    def test_rows_of_two_frames(self):
+        # exposed so that no row is the same in both
+        registers = TAKEN[:2] + b"\2" + TAKEN[3:]
+        one, other = frame(1), bytes(255 - light for light in frame(1))
+        upper, lower = picture(one, registers), picture(other, registers)
+        self.assertEqual(judge(upper, one, registers), b"\1" * PICTURE_ROWS)
+        # rows 0 to 55 are the first seven rows of tiles
+        area = upper[: 7 * 256] + lower[7 * 256 :]
+        self.assertEqual(judge(area, one, registers), b"\1" * 56 + bytes(56))
+        self.assertEqual(judge(area, bytearray(other), bytearray(registers)), bytes(56) + b"\1" * 56)
+
+    def test_judgements_that_are_refused(self):
+        for length in (0, FRAME_BYTES - 1, FRAME_BYTES + 1):
+            with self.assertRaises(Refusal) as caught:
+                judge(bytes(PICTURE_BYTES), bytes(length), TAKEN)
+            self.assertEqual(caught.exception.number, 4)
+        for area, registers, what in ((bytes(5), TAKEN, "the area must be 3584 bytes, not 5"), (bytes(PICTURE_BYTES), TAKEN[1:], "the registers must be 54 bytes, not 53")):
+            with self.assertRaisesRegex(ValueError, what):
+                judge(area, frame(1), registers)
+        with self.assertRaisesRegex(TypeError, "the frame must be bytes, not NoneType"):
+            judge(bytes(PICTURE_BYTES), None, TAKEN)
 
 
 class Calls(unittest.TestCase):
@@ -494,7 +580,7 @@ class BadInput(unittest.TestCase):
         cartridge.close()
         cartridge.close()
         uses = {
-            "reset": (), "read": (0,), "write": (0xA000, 0), "tick": (1,), "inspect": (), "lend": (frame(1),), "lend_photo": (b"",),
+            "reset": (), "read": (0,), "write": (0xA000, 0), "tick": (1,), "step": (b"00",), "inspect": (), "lend": (frame(1),), "lend_photo": (b"",),
             "choose": {"light": 0, "level": 0}, "picture": (), "area": (), "plate": (), "place": (b"",), "shades": (), "readings": (),
             "save": (), "parts": (), "battery": (), "record": (), "recording": (),
         }

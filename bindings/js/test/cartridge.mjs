@@ -8,10 +8,10 @@ import { fileURLToPath } from "node:url";
 import * as gulxinett from "../gulxinett.js";
 import { Memory } from "../memory.js";
 
-const { FRAME_BYTES, LAYOUT, PICTURE_BYTES, PLATE_BYTES, RAM_BANK, REGISTERS, ROM_BANK, Refusal, SCRIPT_BYTES, SHADES_BYTES, STATE_BYTES, layoutOf, load } = gulxinett;
+const { FRAME_BYTES, LAYOUT, PICTURE_BYTES, PICTURE_ROWS, PLATE_BYTES, RAM_BANK, REGISTERS, ROM_BANK, Refusal, SCRIPT_BYTES, SHADES_BYTES, STATE_BYTES, layoutOf, load } = gulxinett;
 const place = new URL("../gulxinett.wasm", import.meta.url);
 const bytes = readFileSync(place);
-const { Cartridge, picture, salvage } = await load();
+const { Audit, Cartridge, judge, picture, salvage } = await load();
 
 const TOTAL = 32_958 + 16 * 0x80;
 const registers = Uint8Array.from({ length: REGISTERS }, (_, n) => (n < 6 ? [3, 0, 0, 0x80, 0, 0][n] : 0x40 + 0x20 * (n % 3) + n));
@@ -60,6 +60,9 @@ function types() {
   const body = /^export interface Cartridge \{$(.*?)^\}$/ms.exec(text)[1];
   const members = Object.getOwnPropertyNames(Cartridge.prototype).filter((name) => name !== "constructor");
   assert.deepEqual(names(/^  (?:readonly )?(\w+)[(:]/gm, body), members.sort());
+  const audit = /^export interface Audit \{$(.*?)^\}$/ms.exec(text)[1];
+  const own = Object.getOwnPropertyNames(Audit.prototype).filter((name) => name !== "constructor");
+  assert.deepEqual(names(/^  (\w+)\(/gm, audit), own.sort());
   say(`the types name the ${members.length} methods and counts and ${Object.keys(gulxinett).length} exports there are`);
 }
 
@@ -406,6 +409,84 @@ function salvages() {
   say(`${some.length + 5} scripts salvaged, one of them a recording uploaded twice; 7 that are none turned away`);
 }
 
+/** The events of a recording, in pieces of any length, and over a battery save. */
+function audits() {
+  const data = (name) => readFileSync(new URL(`../../../tests/data/${name}`, import.meta.url));
+  const [script, due] = [data("audited.script"), data("audited.events").toString()];
+  const lengths = [1, 2, 7, 260, 261, script.length];
+  for (const length of lengths) {
+    const [audit, events] = [new Audit(), []];
+    for (let place = 0; place < script.length; place += length) events.push(...audit.feed(script.subarray(place, place + length)));
+    events.push(...audit.finish());
+    assert.equal(events.join(""), due);
+    assert.ok(events.every((event) => event.indexOf("\n") === event.length - 1));
+  }
+  const audit = new Audit();
+  assert.deepEqual(audit.feed(Buffer.from("02400010\n02A00003")), []);
+  assert.match(audit.feed(Buffer.from("\n")).join(), /^line 2 event start serial 1 .*\n$/);
+  throws(TypeError, "the piece must be a Uint8Array", () => audit.feed("00"));
+  audit.close();
+  audit.close();
+  for (const work of [() => audit.feed(script), () => audit.finish()]) throws(Error, "the recording has ended", work);
+  // RAM writing on, a byte in the last of sixteen banks, one in the first that is rewritten the same
+  const banks = new Audit({ ram: new Uint8Array(16 * RAM_BANK) });
+  assert.deepEqual(banks.feed(Buffer.from("0200000A\n0240000F\n02BFFF01\n02400000\n02A00000")), []);
+  const [changed, ...more] = banks.finish();
+  assert.deepEqual([changed, more.length], ["line 5 event changed bank F from 1FFF to 1FFF\n", 1]);
+  for (const length of [0, RAM_BANK - 1, 3 * RAM_BANK]) refused(3, () => new Audit({ ram: new Uint8Array(length) }));
+  say(`a recording audited in pieces of ${lengths.join(", ")} bytes, and one over a battery save`);
+}
+
+/** Lines carried out one by one: their answers, and what a recorder has of them. */
+function steps() {
+  const cartridge = new Cartridge();
+  const some = [
+    ["02400010", "00"], ["02A00003", "00"], ["01A000", "0003"], ["0300010000", "00000080BE"], ["018000", "05"], ["", "06"], ["01a000", "06"],
+    ["00\n", "06"], ["0".repeat(1000), "06"], ["00", "00"],
+  ];
+  const step = (player, line) => Buffer.from(player.step(Buffer.from(line))).toString();
+  for (const [line, answer] of some) assert.equal(step(cartridge, line), `${answer}\n`, line);
+  throws(TypeError, "the line must be a Uint8Array", () => cartridge.step("00"));
+  const [session, player] = [new Cartridge(), new Cartridge()];
+  for (const one of [session, player]) one.record();
+  begin(session, 3).write(0xa000, 2);
+  const script = Buffer.from(session.recording()).toString();
+  for (const line of script.trim().split("\n")) {
+    assert.match(step(player, line), /^00/);
+    step(player, "xx");
+  }
+  assert.equal(Buffer.from(player.recording()).toString(), script);
+  assert.deepEqual(whole(player), whole(session));
+  // a row that was stepped through is an image that a script does not begin with
+  const image = new Uint8Array(FRAME_BYTES).fill(0x5a, 5 * 128, 6 * 128);
+  const other = new Cartridge();
+  step(other, rowLines(image, [5]).trim());
+  other.record();
+  step(other, "02400010");
+  assert.equal(Buffer.from(other.recording()).toString(), `${rowLines(image, everyRow)}02400010\n`);
+  for (const one of [cartridge, session, player, other]) one.close();
+  say(`${some.length} lines carried out, and a recording of ${script.length} bytes stepped through`);
+}
+
+/** Which rows are whose: a plate of two frames, and what is no plate, frame or registers. */
+function judgements() {
+  // exposed so that no row is the same in both
+  const taken = registers.map((value, n) => (n === 2 ? 2 : value));
+  const [one, other] = [frame(1), frame(1).map((light) => 255 - light)];
+  const [upper, lower] = [picture(one, taken), picture(other, taken)];
+  const [same, differ] = ["1", "0"].map((row) => row.repeat(PICTURE_ROWS / 2));
+  assert.equal(judge(upper, one, taken).join(""), same + same);
+  // rows 0 to 55 are the first seven rows of tiles
+  const area = Uint8Array.from(upper, (byte, place) => (place < 7 * 256 ? byte : lower[place]));
+  assert.equal(judge(area, one, taken).join(""), same + differ);
+  assert.equal(judge(area.buffer, other, taken).join(""), differ + same);
+  for (const length of [0, FRAME_BYTES - 1, FRAME_BYTES + 1]) refused(4, () => judge(area, new Uint8Array(length), taken));
+  throws(RangeError, "the area must be 3584 bytes, not 5", () => judge(area.subarray(0, 5), one, taken));
+  throws(RangeError, "the registers must be 54 bytes, not 53", () => judge(area, one, taken.subarray(1)));
+  throws(TypeError, "the frame must be a Uint8Array", () => judge(area, "frame", taken));
+  say("a plate of two frames: rows 0 to 55 are the one's, rows 56 to 111 the other's");
+}
+
 /** Many cartridges in one module, so that its memory grows while captures run. */
 function sideBySide() {
   const many = Array.from({ length: 40 }, (_, number) => {
@@ -468,7 +549,7 @@ async function nothingLost() {
     memory = instance.exports.memory;
     return instance;
   };
-  const { Cartridge, picture, salvage } = await load();
+  const { Audit, Cartridge, judge, picture, salvage } = await load();
   WebAssembly.instantiate = instantiate;
   const save = new Cartridge().parts();
   const [good, bad] = [new Uint8Array(2 * ROM_BANK), new Uint8Array(3 * ROM_BANK)];
@@ -627,7 +708,7 @@ function closed() {
   const before = [whole(other), whole(next)];
   cartridge.close();
   const uses = {
-    reset: [], read: [0], write: [0xa000, 0], tick: [1], inspect: [], choose: [{ light: 0, level: 0 }], lend: [frame(1)], lendPhoto: [frame(1)], picture: [], area: [], plate: [],
+    reset: [], read: [0], write: [0xa000, 0], tick: [1], step: [frame(1)], inspect: [], choose: [{ light: 0, level: 0 }], lend: [frame(1)], lendPhoto: [frame(1)], picture: [], area: [], plate: [],
     place: [frame(1)], shades: [], readings: [], save: [], parts: [], battery: [], record: [], recording: [],
   };
   for (const [name, words] of Object.entries(uses)) throws(Error, "the cartridge is closed", () => cartridge[name](...words));
@@ -650,6 +731,9 @@ photographs();
 choices();
 recorder();
 salvages();
+audits();
+steps();
+judgements();
 sideBySide();
 memory();
 await nothingLost();

@@ -278,3 +278,164 @@ pub fn restore(file: &[u8], state: &mut [u8], ram: &mut [u8], store: &mut [u8]) 
         )
     })
 }
+
+/// Compares a picture area row by row with the picture of a frame under the registers taken: `rows` gets 1 for each
+/// of the 112 rows that is the same, 0 for another; the value is how many are. Bytes of `rows` beyond stay, and a
+/// shorter `rows` is refused as [`Refusal::Room`].
+pub fn judge(
+    area: &[u8; PICTURE_BYTES],
+    frame: &[u8],
+    registers: &[u8; REGISTERS],
+    rows: &mut [u8],
+) -> Answer {
+    // SAFETY: frame and rows are slices, the mutable one apart, and the arrays have the sizes the function expects.
+    Answer(unsafe {
+        ffi::gulxinett_judge(
+            area.as_ptr(),
+            frame.as_ptr(),
+            frame.len(),
+            registers.as_ptr(),
+            rows.as_mut_ptr(),
+            rows.len(),
+        )
+    })
+}
+
+/// What a script is played over, as it is lent.
+pub struct Session<'a> {
+    /// The state record.
+    pub state: &'a mut [u8],
+    /// The ROM.
+    pub rom: &'a [u8],
+    /// The RAM.
+    pub ram: &'a mut [u8],
+    /// The frame store.
+    pub store: &'a mut [u8],
+    /// The image, which row lines write.
+    pub image: &'a mut [u8],
+}
+
+/// Carries out a line of a bus script, without its LF, and writes its answer with the LF; the value is the answer's
+/// length. Bytes of `out` beyond it stay, and an `out` of fewer than 11 bytes is refused as [`Refusal::Room`].
+pub fn step(session: Session, line: &[u8], out: &mut [u8]) -> Answer {
+    // SAFETY: each pointer and length are those of one slice, and the mutable ones are apart.
+    Answer(unsafe {
+        ffi::gulxinett_step(
+            session.state.as_mut_ptr(),
+            session.state.len(),
+            session.rom.as_ptr(),
+            session.rom.len(),
+            session.ram.as_mut_ptr(),
+            session.ram.len(),
+            session.store.as_mut_ptr(),
+            session.store.len(),
+            session.image.as_mut_ptr(),
+            session.image.len(),
+            line.as_ptr(),
+            line.len(),
+            out.as_mut_ptr(),
+            out.len(),
+        )
+    })
+}
+
+/// Audits a piece of a recording up to and with its first LF, or all of it; the value is how many bytes were read.
+/// Where a line ended, its event is written, if it makes one, and `book[0]` is the event's length. `book` has
+/// 13 numbers, `line` 261 bytes, `out` at least 512, or it is refused as [`Refusal::Room`].
+pub fn audit(
+    book: &mut [u64],
+    line: &mut [u8],
+    session: Session,
+    piece: &[u8],
+    out: &mut [u8],
+) -> Answer {
+    // SAFETY: each pointer and length are those of one slice, and the mutable ones are apart.
+    Answer(unsafe {
+        ffi::gulxinett_audit(
+            book.as_mut_ptr(),
+            book.len(),
+            line.as_mut_ptr(),
+            line.len(),
+            session.state.as_mut_ptr(),
+            session.state.len(),
+            session.rom.as_ptr(),
+            session.rom.len(),
+            session.ram.as_mut_ptr(),
+            session.ram.len(),
+            session.store.as_mut_ptr(),
+            session.store.len(),
+            session.image.as_mut_ptr(),
+            session.image.len(),
+            piece.as_ptr(),
+            piece.len(),
+            out.as_mut_ptr(),
+            out.len(),
+        )
+    })
+}
+
+/// Ends the recording that is audited: writes the event of a last line without LF, and that a capture is held, where
+/// one is; the value is their length, as `book[0]` is.
+pub fn audit_end(book: &mut [u64], line: &mut [u8], session: Session, out: &mut [u8]) -> Answer {
+    // SAFETY: each pointer and length are those of one slice, and the mutable ones are apart.
+    Answer(unsafe {
+        ffi::gulxinett_audit_end(
+            book.as_mut_ptr(),
+            book.len(),
+            line.as_mut_ptr(),
+            line.len(),
+            session.state.as_mut_ptr(),
+            session.state.len(),
+            session.rom.as_ptr(),
+            session.rom.len(),
+            session.ram.as_mut_ptr(),
+            session.ram.len(),
+            session.store.as_mut_ptr(),
+            session.store.len(),
+            session.image.as_mut_ptr(),
+            session.image.len(),
+            out.as_mut_ptr(),
+            out.len(),
+        )
+    })
+}
+
+/// Writes the first stretch at or after a place of the RAM that is not as it was first, outside the picture area, as
+/// an event, or that nothing has changed; the value is the place after the stretch, `book[0]` the event's length.
+pub fn audit_changed(
+    book: &mut [u64],
+    first: &[u8],
+    ram: &[u8],
+    from: u32,
+    out: &mut [u8],
+) -> Answer {
+    // SAFETY: each pointer and length are those of one slice, and the mutable ones are apart.
+    Answer(unsafe {
+        ffi::gulxinett_audit_changed(
+            book.as_mut_ptr(),
+            book.len(),
+            first.as_ptr(),
+            first.len(),
+            ram.as_ptr(),
+            ram.len(),
+            from,
+            out.as_mut_ptr(),
+            out.len(),
+        )
+    })
+}
+
+/// Writes the summary of the recording that was audited; the value is its length, as `book[0]` is.
+pub fn audit_summary(book: &mut [u64], state: &[u8], out: &mut [u8]) -> Answer {
+    // SAFETY: each pointer and length are those of one slice, and the mutable ones are apart.
+    Answer(unsafe {
+        ffi::gulxinett_audit_summary(
+            book.as_mut_ptr(),
+            book.len(),
+            state.as_ptr(),
+            state.len(),
+            out.as_mut_ptr(),
+            out.len(),
+        )
+    })
+}

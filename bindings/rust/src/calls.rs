@@ -2,7 +2,7 @@
 
 use crate::bytes;
 use crate::refusal::Refusal;
-use crate::sizes::{PICTURE_BYTES, REGISTERS, STATE_BYTES};
+use crate::sizes::{PICTURE_BYTES, PICTURE_ROWS, REGISTERS, STATE_BYTES};
 use crate::state::State;
 
 /// A contrast level that people know, instead of 48 numbers.
@@ -94,6 +94,17 @@ pub fn picture(frame: &[u8], registers: &[u8; REGISTERS]) -> Result<[u8; PICTURE
     let mut picture = [0; PICTURE_BYTES];
     bytes::picture(frame, registers, &mut picture).result()?;
     Ok(picture)
+}
+
+/// Which rows of a picture area are those of the picture of a frame under the registers taken.
+pub fn judge(
+    area: &[u8; PICTURE_BYTES],
+    frame: &[u8],
+    registers: &[u8; REGISTERS],
+) -> Result<[bool; PICTURE_ROWS], Refusal> {
+    let mut rows = [0; PICTURE_ROWS];
+    bytes::judge(area, frame, registers, &mut rows).result()?;
+    Ok(rows.map(|row| row == 1))
 }
 
 /// A bus script that was salvaged.

@@ -5,10 +5,13 @@ use crate::calls::{choose, inspect, picture, read, reset, tick, write, Choice, E
 use crate::recorder::Recorder;
 use crate::refusal::Refusal;
 use crate::sizes::{
-    FRAME_BYTES, PICTURE_BYTES, PICTURE_OFFSET, PLATE_BYTES, RAM_BANK, ROM_BANK, SAVE_BYTES,
-    SHADES_BYTES, STATE_BYTES,
+    ANSWER_BYTES, FRAME_BYTES, PICTURE_BYTES, PICTURE_OFFSET, PLATE_BYTES, RAM_BANK, ROM_BANK,
+    SAVE_BYTES, SHADES_BYTES, STATE_BYTES,
 };
 use crate::state::State;
+
+/// The answer to a line that is malformed, and to no other.
+const MALFORMED: &[u8] = b"06\n";
 
 /// State, ROM, RAM, frame store and the image lent. Dropping it is closing it.
 #[derive(Clone, Debug, PartialEq, Eq)]
@@ -152,6 +155,33 @@ impl Cartridge {
     pub fn tick(&mut self, cycles: u32) -> Result<u32, Refusal> {
         self.note(|recorder| recorder.tick(cycles));
         tick(&mut self.state, &mut self.ram, &self.store, cycles)
+    }
+
+    /// Carries out a line of a bus script, without its LF, as the program `bus` does; the answer has its LF. A
+    /// malformed line is answered `06` and changes nothing; a recorder has every other as it is.
+    pub fn step(&mut self, line: &[u8]) -> Vec<u8> {
+        if let Some(recorder) = &mut self.recorder {
+            recorder.before_line(&self.image);
+        }
+        let mut record = self.state.encode();
+        let session = bytes::Session {
+            state: &mut record,
+            rom: &self.rom,
+            ram: &mut self.ram,
+            store: &mut self.store,
+            image: &mut self.image,
+        };
+        let mut answer = vec![0; ANSWER_BYTES];
+        let length = bytes::step(session, line, &mut answer).result();
+        let length = length.expect("what a cartridge has is a record, and there is room");
+        answer.truncate(length as usize);
+        self.state.take(&record);
+        if answer != MALFORMED {
+            // a row is lent
+            self.image_untouched &= !line.starts_with(b"04");
+            self.note(|recorder| recorder.line(line));
+        }
+        answer
     }
 
     /// Writes the matrix and the exposure registers as chosen, and nothing else: a capture held goes on

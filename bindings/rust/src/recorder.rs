@@ -38,9 +38,7 @@ impl Recorder {
 
     /// A write is lent the image, which may have to be told first.
     pub fn write(&mut self, image: &[u8], address: u16, value: u8) {
-        if !self.image_known {
-            self.lend(&[], image);
-        }
+        self.before_line(image);
         self.append(|out| bytes::record_write(address, value, out));
     }
 
@@ -68,6 +66,19 @@ impl Recorder {
 
     pub fn tick(&mut self, cycles: u32) {
         self.append(|out| bytes::record_tick(cycles, out));
+    }
+
+    /// A line is about to be carried out, which may be a write: the image may have to be told first.
+    pub fn before_line(&mut self, image: &[u8]) {
+        if !self.image_known {
+            self.lend(&[], image);
+        }
+    }
+
+    /// A line that was carried out, without its LF.
+    pub fn line(&mut self, line: &[u8]) {
+        self.script.extend_from_slice(line);
+        self.script.push(b'\n');
     }
 
     /// Another image is lent: the rows that changed, and the first time all.

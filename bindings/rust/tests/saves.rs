@@ -4,10 +4,11 @@ mod common;
 
 use common::{begin, frame, registers};
 use gulxinett::{
-    bytes, picture, write_whole, Cartridge, Refusal, FRAME_BYTES, LAYOUT, PICTURE_BYTES, RAM_BANK,
-    ROM_BANK, SAVE_BYTES, STATE_BYTES,
+    bytes, picture, write_whole, Cartridge, Refusal, Whole, FRAME_BYTES, LAYOUT, PICTURE_BYTES,
+    RAM_BANK, ROM_BANK, SAVE_BYTES, STATE_BYTES,
 };
 use std::fs;
+use std::io::Write;
 use std::path::PathBuf;
 use std::process::{Command, Stdio};
 use std::thread::sleep;
@@ -288,6 +289,28 @@ fn a_file_is_written_whole_and_nothing_is_left_beside_it() {
     assert!(write_whole(folder.join("none").join("file"), b"new").is_err());
     assert!(write_whole("/", b"new").is_err());
     assert_eq!(fs::read_dir(&folder).unwrap().count(), 2);
+    fs::remove_dir_all(folder).unwrap();
+}
+
+#[test]
+fn a_file_in_pieces_is_there_once_it_is_finished() {
+    let folder = folder("pieces");
+    let path = folder.join("plate.pgm");
+    let count = || fs::read_dir(&folder).unwrap().count();
+    fs::write(&path, b"old").unwrap();
+    for finished in [false, true] {
+        let mut whole = Whole::beside(&path).unwrap();
+        whole.write_all(b"new ").unwrap();
+        whole.write_all(b"file").unwrap();
+        assert_eq!((fs::read(&path).unwrap(), count()), (b"old".to_vec(), 2));
+        if finished {
+            whole.finish().unwrap();
+        } else {
+            drop(whole);
+        }
+        let due: &[u8] = if finished { b"new file" } else { b"old" };
+        assert_eq!((fs::read(&path).unwrap(), count()), (due.to_vec(), 1));
+    }
     fs::remove_dir_all(folder).unwrap();
 }
 

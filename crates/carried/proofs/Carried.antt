@@ -11,7 +11,7 @@ use Rattle.timing.specs.Timing.{totalOf}
 use Rattle.tiles.specs.Tiles.{areaOf, Bytes}
 use Rattle.controller.specs.State.{resetState}
 use Rattle.layout.specs.Layout.{encoded, registersAt}
-use Rattle.embed.specs.Exports.{Called}
+use Rattle.answers.specs.Called.{Called}
 use Rattle.embed.proofs.Cases.{reset-done}
 use Rattle.history.specs.History as history
 use Rattle.history.specs.History.{Call, World, fresh, leaves, after}

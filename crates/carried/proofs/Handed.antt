@@ -13,9 +13,12 @@ use Rattle.desk.specs.Choice.{chooseMeans}
 use Rattle.placing.specs.Placing.{placeMeans}
 use Rattle.layout.specs.Layout.{encoded, isRecord, registersAt, decoded}
 use Rattle.layout.proofs.Inverse.{Whole, encoded-length, encoded-record, decode-encode}
-use Rattle.embed.specs.Exports.{Called, asBytes, plainIn, exposureIn}
-use Rattle.embed.proofs.Cases.{reset-done, read-done, write-done, tick-done, choose-done, place-done}
-use Rattle.embed.proofs.Only.{write-says, tick-says, place-says}
+use Rattle.answers.specs.Called.{Called, asBytes}
+use Rattle.embed.specs.Exports.{plainIn, exposureIn}
+use Rattle.embed.proofs.Cases.{reset-done, read-done, write-done, tick-done, choose-done}
+use Rattle.images.proofs.Cases.{place-done}
+use Rattle.embed.proofs.Only.{write-says, tick-says}
+use Rattle.images.proofs.Only.{place-says}
 use Rattle.history.specs.History as history
 use Rattle.history.specs.History.{Call, World, leaves, answers, after}
 use Rattle.history.specs.Seen.{isReset, goesIn, byteIn, startSeen, endSeen, heldThrough, landsSeen, landedSeen, lastSeen}

@@ -8,7 +8,8 @@ use Rattle.layout.specs.Layout.{encoded}
 use Rattle.answers.specs.Packed.{valueIn}
 use Rattle.history.specs.History as history
 use Rattle.history.specs.History.{Call}
-use Rattle.embed.specs.Exports.{plainIn, exposureIn, resetBytes, readBytes, writeBytes, tickBytes, inspectBytes, chooseBytes, placeBytes}
+use Rattle.embed.specs.Exports.{plainIn, exposureIn, resetBytes, readBytes, writeBytes, tickBytes, inspectBytes, chooseBytes}
+use Rattle.images.specs.Images.{placeBytes}
 
 -- what is handed on from call to call
 pub record Kept : Type 0 where

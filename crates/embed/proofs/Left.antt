@@ -7,22 +7,22 @@ use Prim.Native.Nat.{ℕ, zero, suc, _+_, _<_}
 use native.Mathlib.Omega.{arith}
 use Rattle.controller.specs.declared.Controller.{Controller}
 use Rattle.tiles.specs.Tiles.{Bytes}
-use Rattle.capture.specs.Capture.{from}
 use Rattle.cartridge.specs.Calls.{writeMeans}
 use Rattle.capture.specs.Calls.{tickMeans}
 use Rattle.controller.specs.Table.{lowest}
-use Rattle.laws.proofs.Bools.{either}
-use Rattle.capture.proofs.TickSum.{again, after, tick-sum}
 use Rattle.desk.specs.declared.choice.Exposure.{Exposure}
-use Rattle.desk.specs.Choice.{withRegisters, chooseRows, chooseMeans}
+use Rattle.desk.specs.Choice.{chooseMeans, withRegisters, chooseRows}
 use Rattle.desk.proofs.Choices.{choose-refuses}
-use Rattle.desk.proofs.Level.{chosen-length}
 use Rattle.layout.specs.Layout.{encoded, isRecord, decoded}
 use Rattle.answers.specs.Packed.{packed}
-use Rattle.embed.specs.Exports.{Called, asBytes, writeBytes, tickBytes, plainIn, exposureIn, chooseBytes, placeBytes}
-use Rattle.layout.proofs.Inverse.{Whole, encoded-record, decode-encode, encode-decode}
+use Rattle.layout.proofs.Inverse.{Whole, encoded-record, decode-encode}
+use Rattle.capture.specs.Capture.{from}
+use Rattle.capture.proofs.TickSum.{again, after, tick-sum}
+use Rattle.desk.proofs.Level.{chosen-length}
 use Rattle.calls.proofs.Left.{decoded-whole, same-sizes, write-whole, tick-whole}
-use Rattle.embed.proofs.Cases.{write-done, tick-done, choose-done, place-unread, place-done, place-state}
+use Rattle.answers.specs.Called.{Called, asBytes}
+use Rattle.embed.specs.Exports.{writeBytes, tickBytes, plainIn, exposureIn, chooseBytes}
+use Rattle.embed.proofs.Cases.{write-done, tick-done, choose-done}
 
 -- ---- the bytes that a call leaves
 
@@ -77,10 +77,3 @@ module _ (s ram store : List ℕ) (bytes : Bytes s) (h : isRecord s ≡ true) wh
       tick-done s ram store (a + b) h ∙ ap asBytes (tick-sum (decoded s) ram store a b) in
       rw (tick-done s ram store a h, second, all)
       (record { state = refl; ram = refl; store = refl; answer = add-up _ _ _ _ })
-
--- a placing, done or refused, leaves the state bytes as they were
-pub place-left : (s ram file : List ℕ) → Bytes s → placeBytes s ram file .state ≡ s
-place-left s ram file bytes =
-    either (isRecord s)
-    (λ h. rw (place-done s ram file h) (ap encoded (place-state s ram file (decoded s)) ∙ encode-decode s bytes h))
-    (λ h. rw (place-unread s ram file h) refl)

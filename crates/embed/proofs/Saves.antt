@@ -1,25 +1,24 @@
 -- The exported functions of a save: what they answer and leave, and that a refusal leaves every byte. Assumes nothing.
 use mathlib.Core.Path.{_≡_, refl, sym, ap, _∙_}
 use mathlib.Core.List.{List}
-use Prim.Native.Nat.{ℕ, zero, suc, _+_, _/_, _<_}
-use native.Mathlib.Omega.{arith}
+use Prim.Native.Nat.{ℕ, zero, suc, _/_, _<_}
 use lib.ListN.{length}
-use Rattle.timing.proofs.Lent.{ram-lent}
+use native.Mathlib.Omega.{arith}
 use Rattle.controller.specs.declared.WriteAnswer.{WriteAnswer}
-use Rattle.controller.specs.Outcome.{writeNumber}
+use Rattle.controller.specs.Outcome.{writeNumber, refusal}
 use Rattle.controller.specs.Table.{lowest}
 use Rattle.shades.specs.declared.Output.{Output}
 use Rattle.shades.specs.Shades.{exported, outputNumber, outputValue}
+use Rattle.answers.specs.Packed.{packed}
+use Rattle.timing.proofs.Lent.{ram-lent}
 use Rattle.save.specs.Save.{saveRows, saveMeans}
 use Rattle.save.specs.Restore.{restored, restoreMeans}
 use Rattle.save.proofs.Saved.{save-refuses, save-fits}
 use Rattle.save.proofs.Restored.{restore-refuses}
-use Rattle.answers.specs.Packed.{packed}
-use Rattle.embed.specs.Exports.{called, filled}
+use Rattle.answers.specs.Called.{called, filled}
+use Rattle.answers.proofs.Kept.{kept, written, written-kept}
+use Rattle.answers.proofs.Only.{Says, packed-says}
 use Rattle.embed.specs.Saves.{saveBytes, asRestored, restoreBytes}
-use Rattle.embed.proofs.Cases.{kept, written}
-use Rattle.embed.proofs.Only.{Says, packed-says}
-use Rattle.embed.proofs.Kept.{written-kept}
 
 pub save-written : (s ram store out : List ℕ) (r : Output) (left : List ℕ) → exported (outputNumber r) (outputValue r) left ≡ saveMeans s ram store out
     → (p : ℕ) → p ≡ packed (outputNumber r) (outputValue r) → filled p left ≡ saveBytes s ram store out

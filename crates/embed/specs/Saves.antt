@@ -4,7 +4,7 @@ use Prim.Native.Nat.{ℕ}
 use Rattle.save.specs.Save.{saveMeans}
 use Rattle.save.specs.Restore.{Restored, restoreMeans}
 use Rattle.answers.specs.Packed.{packed}
-use Rattle.embed.specs.Exports.{Called, called, Filled, asWritten}
+use Rattle.answers.specs.Called.{Called, called, Filled, asWritten}
 
 -- state, RAM and frame store as one file: the value is its length
 unfoldable pub saveBytes : List ℕ → List ℕ → List ℕ → List ℕ → Filled

@@ -4,7 +4,7 @@ use answers::output_answer;
 use save::reading::restore;
 use save::writing::save;
 ghost use mathlib.Core.Path.{_≡_};
-ghost use Rattle.embed.specs.Exports.{called, filled};
+ghost use Rattle.answers.specs.Called.{called, filled};
 ghost use Rattle.embed.specs.Saves.{saveBytes, restoreBytes};
 
 // Writes state, RAM and frame store as one file. The answer's value is its length.

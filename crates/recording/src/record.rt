@@ -85,7 +85,7 @@ pub fn record_tick(cycles: u32, out: &mut [u8]) -> Recorded
 }
 
 // Puts bytes into a buffer, two digits each.
-fn put_bytes(out: &mut [u8], at: usize, bytes: &[u8])
+pub fn put_bytes(out: &mut [u8], at: usize, bytes: &[u8])
     requires { ⌜ at + 2 * length (now bytes) ≤ length (now out) ⌝ }
     ensures { λ _. ⌜ now (out .exit) ≡ placed (now (out .entry)) at (rowHex (now (bytes .entry))) ⌝ }
 {

@@ -37,6 +37,8 @@ use Rattle.placing.specs.Placing.{placeRows, placed}
 use Rattle.plates.proofs.Exports.{export-refuses}
 use Rattle.shades.proofs.Outputs.{shades-refuses}
 use Rattle.placing.proofs.Placed.{place-refuses}
+use Rattle.judging.specs.Judging.{afreshOf, judgedBy, judgeRows}
+use Rattle.judging.proofs.Outcomes.{judge-refuses}
 use Rattle.readings.specs.Readings.{readingsOf, readingRows}
 use Rattle.readings.proofs.Values.{readings-refuse}
 use Rattle.photos.specs.Photo.{imageOf, importRows}
@@ -49,9 +51,18 @@ use Rattle.salvaging.proofs.Outcomes.{inSalvaging}
 use Rattle.layout.specs.Layout.{encoded, isRecord, decoded}
 use Rattle.layout.proofs.Inverse.{encode-decode}
 use Rattle.answers.specs.Packed.{packed, numberIn}
-use Rattle.embed.specs.Exports.{Called, called, asBytes, unread, resetBytes, readBytes, writeBytes, tickBytes, plainIn, exposureIn, chooseBytes, inspected, inspectBytes, filled, asDrawn, pictureBytes, asLine, recordBytes, asWritten, exportBytes, shadesBytes, placeBytes, readingsBytes, asRead, importBytes, asReported, salvageBytes}
-use Rattle.embed.proofs.Cases.{read-unread, read-done, write-unread, write-done, tick-unread, tick-done, choose-unread, choose-done, inspect-unread, inspect-done, place-unread, place-done, readings-unread, readings-done}
-use Rattle.embed.proofs.Only.{Says, packed-says, read-says, write-says, tick-says, choose-says, inspect-says, record-says, export-says, shades-says, place-says, readings-says, salvage-says}
+use Rattle.answers.specs.Called.{Called, called, asBytes, unread, filled, asWritten}
+use Rattle.embed.specs.Exports.{resetBytes, readBytes, writeBytes, tickBytes, plainIn, exposureIn, chooseBytes, inspected, inspectBytes}
+use Rattle.images.specs.Images.{asDrawn, pictureBytes, exportBytes, shadesBytes, placeBytes, readingsBytes, asRead, importBytes}
+use Rattle.images.specs.Judges.{asJudged, judgeBytes}
+use Rattle.recorder.specs.Recorder.{asLine, recordBytes, asReported, salvageBytes}
+use Rattle.embed.proofs.Cases.{read-unread, read-done, write-unread, write-done, tick-unread, tick-done, choose-unread, choose-done, inspect-unread, inspect-done}
+use Rattle.images.proofs.Cases.{place-unread, place-done, readings-unread, readings-done}
+use Rattle.answers.proofs.Only.{Says, packed-says}
+use Rattle.embed.proofs.Only.{read-says, write-says, tick-says, choose-says, inspect-says}
+use Rattle.recorder.proofs.Only.{record-says, salvage-says}
+use Rattle.images.proofs.Judges.{judge-says}
+use Rattle.images.proofs.Only.{export-says, shades-says, place-says, readings-says}
 use Rattle.refusing.specs.Tables.{inCalled, inFilled, inReported, leaves, leavesBuffer, leavesBoth, badState, resetTable, readTable, writeTable, tickTable, inspectTable, chooseTable, placeTable, readingsTable, over, salvageTable}
 
 -- a call's refusals in the table's own words: a number is answered exactly when its row holds and no lower one does, and then the outcome is
@@ -172,6 +183,12 @@ export-refused ram out = carried (export-refuses ram out) asWritten inFilled (le
 pub shades-refused : (ram out : List ℕ) → Refuses (shadesRows ram out) inFilled (leavesBuffer out) (shadesBytes ram out) (filled (packed 0 14336) (shadesOf ram ++ drop 14336 out))
 unfolding shadesBytes
 shades-refused ram out = carried (shades-refuses ram out) asWritten inFilled (leavesBuffer out) (λ k. refl) (shades-says ram out .number)
+
+pub judge-refused : (plate frame registers rows : List ℕ)
+    → Refuses (judgeRows frame rows) inFilled (leavesBuffer rows) (judgeBytes plate frame registers rows) (asJudged (judgedBy plate (afreshOf frame registers) rows))
+unfolding judgeBytes
+judge-refused plate frame registers rows =
+    carried (judge-refuses plate frame registers rows) asJudged inFilled (leavesBuffer rows) (λ k. refl) (judge-says plate frame registers rows .number)
 
 pub import-refused : (file image : List ℕ) → Refuses (importRows file image) inFilled (leavesBuffer image) (importBytes file image) (filled (packed 0 0) (imageOf file))
 unfolding importBytes

@@ -14,7 +14,8 @@ use Rattle.script.specs.Text.{linesOf}
 use Rattle.salvaging.specs.Salvage.{cleaned}
 use Rattle.layout.specs.Layout.{isRecord, decoded}
 use Rattle.answers.specs.Packed.{packed, numberIn}
-use Rattle.embed.specs.Exports.{Called, called, Filled, filled, Reported, reported}
+use Rattle.answers.specs.Called.{Called, called, Filled, filled}
+use Rattle.recorder.specs.Recorder.{Reported, reported}
 
 -- the number in an answer
 abbrev pub inCalled : Called → ℕ

@@ -6,9 +6,9 @@ use borrow.Author.Needs.{needs}
 use Rattle.tiles.specs.Tiles.{Bytes}
 use Rattle.laws.proofs.Bools.{left-out, let-in}
 use Rattle.layout.specs.Layout.{isRecord}
-use Rattle.embed.specs.Exports.{called}
-use Rattle.layout.proofs.Inverse.{record-parts}
+use Rattle.answers.specs.Called.{called}
 use Rattle.embed.proofs.Cases.{choose-unread, choose-chose, choose-refusal}
+use Rattle.layout.proofs.Inverse.{record-parts}
 use Rattle.embed.proofs.gulxinett_choose.Statement.{statement}
 use Rattle.embed.proofs.gulxinett_choose.Tie as tie
 

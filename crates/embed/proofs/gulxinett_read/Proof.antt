@@ -5,7 +5,7 @@ use mathlib.Core.List.{[]}
 use borrow.Author.Needs.{needs}
 use Rattle.laws.proofs.Bools.{left-out, let-in}
 use Rattle.layout.specs.Layout.{isRecord}
-use Rattle.embed.specs.Exports.{called}
+use Rattle.answers.specs.Called.{called}
 use Rattle.embed.proofs.Cases.{as-called, read-unread, read-done}
 use Rattle.embed.proofs.gulxinett_read.Statement.{statement}
 use Rattle.embed.proofs.gulxinett_read.Tie as tie

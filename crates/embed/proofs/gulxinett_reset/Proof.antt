@@ -4,7 +4,7 @@ use mathlib.Core.List.{[]}
 use borrow.Author.Needs.{needs}
 use borrow.Author.Tests.{eq-eqb, ne-eqb}
 use Rattle.layout.specs.Layout.{encoded}
-use Rattle.embed.specs.Exports.{called}
+use Rattle.answers.specs.Called.{called}
 use Rattle.embed.proofs.Cases.{reset-short, reset-done}
 use Rattle.embed.proofs.gulxinett_reset.Statement.{statement}
 use Rattle.embed.proofs.gulxinett_reset.Tie as tie

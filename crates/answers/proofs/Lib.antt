@@ -1,0 +1,3 @@
+-- Laws of answers and of what is left.
+pub mod Kept
+pub mod Only

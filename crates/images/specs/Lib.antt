@@ -1,0 +1,3 @@
+-- The exported functions of pictures, plates and photographs.
+pub mod Images
+pub mod Judges

@@ -1,0 +1,5 @@
+-- Laws of a plate judged.
+pub mod Same
+pub mod Outcomes
+pub mod Whose
+pub mod Worked

@@ -1,0 +1,2 @@
+-- Which rows of a plate are a frame's.
+pub mod Judging

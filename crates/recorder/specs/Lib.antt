@@ -1,0 +1,3 @@
+-- The exported functions of script lines and scripts.
+pub mod Recorder
+pub mod Steps

@@ -1,0 +1,2 @@
+-- Laws of texts that are put into a buffer.
+pub mod Puts
