@@ -1,11 +1,11 @@
 -- What an audit says does not depend on the first two numbers of its book. Assumes nothing.
 use mathlib.Core.Path.{_≡_, refl, sym, ap, _∙_}
-use mathlib.Core.Bool.{Bool, true, false, not}
+use mathlib.Core.Bool.{not}
 use mathlib.Core.List.{List, [], _∷_, _++_}
-use Prim.Native.Nat.{ℕ, _+_, _<_, _≤_}
+use Prim.Native.Nat.{ℕ, _<_, _≤_}
 use native.Mathlib.Omega.{arith}
 use lib.Dec.{eqb}
-use lib.ListN.{length, take, getD, set, length-set}
+use lib.ListN.{length, take, set, length-set}
 use lib.Seq.{getD-set-same, getD-set-other, take-all, length-take-le}
 use borrow.Author.Tests.{eqb-true, eqb-false}
 use Rattle.laws.specs.Pick.{pick}
@@ -34,9 +34,6 @@ pub record Alike (b c : List ℕ) : Type 0 where
   pub long : Long b
   pub long′ : Long c
   pub same : (k : ℕ) → 2 ≤ k → noted b k ≡ noted c k
-
-pub alike-itself : (b : List ℕ) → Long b → Alike b b
-alike-itself b l = record { long = l; long′ = l; same = λ k h. refl }
 
 pub alike-then : {a b c : List ℕ} → Alike a b → Alike b c → Alike a c
 alike-then p q = record { long = p .long; long′ = q .long′; same = λ k h. p .same k h ∙ q .same k h }

@@ -2,15 +2,15 @@
 use mathlib.Core.Path.{_≡_, refl, sym, ap, subst, _∙_}
 use mathlib.Core.Bool.{Bool, true, false, not, _&&_}
 use mathlib.Core.List.{List, [], _∷_, _++_, append-assoc, append-nil}
-use Prim.Native.Nat.{ℕ, zero, suc, _+_, _-_, _<_, _≤_, min}
+use Prim.Native.Nat.{ℕ, zero, suc, _+_, _-_, _<_, _≤_}
 use native.Mathlib.Nat.{zero-add}
 use native.Mathlib.Omega.{arith}
-use lib.Dec.{eqb, ltb}
-use lib.ListN.{length, take, drop, getD, set, length-append, length-take, length-drop, drop-of-length-le}
+use lib.Dec.{eqb}
+use lib.ListN.{length, take, drop, set, length-append, length-take, length-drop, drop-of-length-le}
 use lib.Seq.{getD-set-same, getD-set-other, take-all, take-append-le, take-append-add, length-take-le}
-use borrow.Author.Tests.{eqb-true, eq-eqb, ne-eqb, lt-ltb, le-ltb, ltb-true, ltb-false, not-true}
+use borrow.Author.Tests.{eqb-true, eq-eqb, ne-eqb, lt-ltb, le-ltb, not-true}
 use Rattle.laws.specs.Pick.{pick}
-use Rattle.laws.proofs.Bools.{either, not-both, both-left, both-right, both-hold}
+use Rattle.laws.proofs.Bools.{either, both-left, both-right}
 use Rattle.laws.proofs.Order.{split}
 use Rattle.lines.specs.Hex.{placed}
 use Rattle.lines.proofs.Placed.{take-placed}
@@ -23,7 +23,7 @@ use Rattle.auditing.specs.Line.{Audited, auditOf, auditAll}
 use Rattle.auditing.specs.Pieces.{Standing, lineIn, heldIn, moreOf, lineHeld, ended, kept, pieceAudited, lastAudited, heldSaid, endAudited}
 use Rattle.audited.specs.Loop.{Auditing, auditingFrom, called, call, pieceRead, looped, InPieces}
 use Rattle.audited.proofs.Writes.{Long, long-next}
-use Rattle.audited.proofs.Alike.{Alike, alike-itself, alike-then, alike-first, SameSaid, lines-same, enough-said}
+use Rattle.audited.proofs.Alike.{Alike, alike-then, alike-first, SameSaid, lines-same, enough-said}
 
 -- ---- lines, and bytes without LF
 

@@ -1,16 +1,15 @@
 -- A recording that is audited is a history: laws of `auditAll` and `callsOf`. Assumes nothing.
-use mathlib.Core.Path.{_≡_, refl, sym, ap, subst, _∙_}
-use mathlib.Core.Bool.{Bool, true, false, _&&_}
+use mathlib.Core.Path.{_≡_, refl, ap, _∙_}
+use mathlib.Core.Bool.{true, _&&_}
 use mathlib.Core.List.{List, [], _∷_, _++_, head-eq-of-cons-eq, tail-eq-of-cons-eq}
-use Prim.Native.Nat.{ℕ, _+_, _*_, _<_}
+use Prim.Native.Nat.{ℕ, _<_}
 use native.Mathlib.Omega.{arith}
-use lib.Dec.{eqb, leb, ltb}
+use lib.Dec.{eqb, leb}
 use lib.ListN.{length, getD}
 use borrow.Author.Tests.{eqb-true, lt-ltb}
-use Rattle.laws.specs.Pick.{pick}
 use Rattle.laws.proofs.Bools.{both-left, both-right}
 use Rattle.laws.proofs.Pick.{pick-ind}
-use Rattle.history.specs.History.{Call, reset, read, write, tick, inspect, leaves, after, counted}
+use Rattle.history.specs.History.{Call, write, leaves, after}
 use Rattle.history.specs.History.{World as Found}
 use Rattle.history.specs.Seen.{writesByte, bytesIn}
 use Rattle.lines.specs.declared.line.Frame.{Frame}

@@ -1,6 +1,6 @@
 -- What the events of a recording tell, from reset on, after any lines. Assumes nothing.
 use mathlib.Core.Path.{_≡_, refl, sym, ap, subst, _∙_}
-use mathlib.Core.Bool.{Bool, true, false, not, _&&_}
+use mathlib.Core.Bool.{true, false, not}
 use mathlib.Core.List.{List, [], _∷_, _++_, append-assoc, append-nil, head-eq-of-cons-eq, tail-eq-of-cons-eq}
 use Prim.Native.Nat.{ℕ, suc, _+_, _%_, _≤_}
 use native.Mathlib.Nat.{add-zero, zero-add}
@@ -8,8 +8,7 @@ use native.Mathlib.Omega.{arith}
 use lib.Dec.{eqb}
 use lib.ListN.{length, set, length-append}
 use borrow.Author.Tests.{eqb-true, eqb-false, eq-eqb}
-use Rattle.laws.specs.Pick.{pick}
-use Rattle.laws.proofs.Bools.{either, not-both, both-left, both-right, both-hold}
+use Rattle.laws.proofs.Bools.{not-both, both-left, both-right}
 use Rattle.laws.proofs.Pick.{pick-ind}
 use Rattle.crc.specs.Crc.{crcOf}
 use Rattle.timing.specs.Timing.{totalOf}
@@ -20,7 +19,7 @@ use Rattle.capture.specs.Capture.{running}
 use Rattle.plates.specs.Grey.{plateOf, plateAfresh}
 use Rattle.history.specs.History.{Call, reset, read, write, tick, inspect, choose, place, fresh, leaves, answers, countIn, after, counted}
 use Rattle.history.specs.History.{World as Found}
-use Rattle.history.specs.Seen.{isReset, inArea, startSeen, endSeen, heldThrough, landsSeen, landedSeen, AreaLeft, byteIn, bytesIn, Start, startOf, worldBefore, worldAfter, registersOf, afresh, countsOf}
+use Rattle.history.specs.Seen.{isReset, startSeen, endSeen, heldThrough, landsSeen, landedSeen, AreaLeft, byteIn, bytesIn, Start, startOf, worldBefore, worldAfter, registersOf, afresh, countsOf}
 use Rattle.history.proofs.Track.{Track, starts, next, told}
 use Rattle.history.proofs.Follows.{Moment, at-reset, moment-next, moment-after}
 use Rattle.history.proofs.Goes.{counted-append, after-append}
@@ -125,38 +124,6 @@ seen-whole book image w k h z =
     let off : startSeen w k ≡ false = unfold startSeen endSeen in rw (both-left (w .state .held) _ h) in
     rw (off, h, eq-eqb (noted book writes) 0 z)
 
--- kinds of events, and the numbers of one
-kindOf : Event → ℕ
-kindOf none = 0
-kindOf (start s i r g) = 1
-kindOf (stop s c) = 2
-kindOf (resume s c) = 3
-kindOf (dropped s c) = 4
-kindOf (landed s a v) = 5
-kindOf (whole s c p) = 6
-kindOf (touched s c p n f t) = 7
-
-record Numbers : Type 0 where
-  pub serial : ℕ
-  pub cycles : ℕ
-  pub plate : ℕ
-  pub writes : ℕ
-  pub first : ℕ
-  pub last : ℕ
-
-abbrev numbers : ℕ → ℕ → ℕ → ℕ → ℕ → ℕ → Numbers
-numbers s c p n f t = record { serial = s; cycles = c; plate = p; writes = n; first = f; last = t }
-
-numbersOf : Event → Numbers
-numbersOf none = numbers 0 0 0 0 0 0
-numbersOf (start s i r g) = numbers s 0 0 0 0 0
-numbersOf (stop s c) = numbers s c 0 0 0 0
-numbersOf (resume s c) = numbers s c 0 0 0 0
-numbersOf (dropped s c) = numbers s c 0 0 0 0
-numbersOf (landed s a v) = numbers s a v 0 0 0
-numbersOf (whole s c p) = numbers s c p 0 0 0
-numbersOf (touched s c p n f t) = numbers s c p n f t
-
 -- what is seen has what each case has
 seen-cases : (book image : List ℕ) (w : Found) (k : Call) (P : Event → Type 0)
     → (startSeen w k ≡ true → P (start (leaves w k .state .started) (crcOf image) (noted book row) (leaves w k .state .taken)))
@@ -173,153 +140,25 @@ seen-cases book image w k P a b c d e f n =
     pick-ind P (endSeen w k) b
     (λ _. pick-ind P (dropSeen w k) c (λ _. pick-ind P (writeSeen w k) d (λ _. pick-ind P (stopSeen w k) e (λ _. pick-ind P (resumeSeen w k) f (λ _. n))))))
 
+-- what each event tells of the call of which it is seen
 module _ (book image : List ℕ) (w : Found) (k : Call) where
-  -- a start
-  start-told : (s i r : ℕ) (g : List ℕ) → seenOf book image w k ≡ start s i r g → startSeen w k ≡ true
-  unfolding kindOf endOf
-  start-told s i r g =
-      seen-cases book image w k (λ (x : Event). x ≡ start s i r g → startSeen w k ≡ true)
-      (λ h _. h)
-      (λ _.
-      pick-ind (λ (x : Event). x ≡ start s i r g → startSeen w k ≡ true) (eqb (noted book writes) 0)
-      (λ _ e. absurd (omega (arith, ap kindOf e)))
-      (λ _ e. absurd (omega (arith, ap kindOf e))))
-      (λ _ e. absurd (omega (arith, ap kindOf e)))
-      (λ _ e. absurd (omega (arith, ap kindOf e)))
-      (λ _ e. absurd (omega (arith, ap kindOf e)))
-      (λ _ e. absurd (omega (arith, ap kindOf e)))
-      (λ e. absurd (omega (arith, ap kindOf e)))
-
-  -- an end that is whole
-  pub record IsWhole (s c p : ℕ) : Type 0 where
+  record IsEnd (s c p : ℕ) : Type 0 where
     pub over : endSeen w k ≡ true
-    pub none : noted book writes ≡ 0
     pub serial : w .state .started ≡ s
     pub cycles : cyclesOf w k ≡ c
     pub plate : crcOf (plateOf (leaves w k .ram)) ≡ p
 
-  is-whole : (s c p : ℕ) → seenOf book image w k ≡ whole s c p → IsWhole s c p
-  unfolding kindOf numbersOf endOf
-  is-whole s c p =
-      seen-cases book image w k (λ (x : Event). x ≡ whole s c p → IsWhole s c p)
-      (λ _ e. absurd (omega (arith, ap kindOf e)))
-      (λ h.
-      pick-ind (λ (x : Event). x ≡ whole s c p → IsWhole s c p) (eqb (noted book writes) 0)
-      (λ z e.
-      let n = ap numbersOf e in
-      record {
-        over = h;
-        none = eqb-true (noted book writes) 0 z;
-        serial = ap (λ (x : Numbers). x .serial) n;
-        cycles = ap (λ (x : Numbers). x .cycles) n;
-        plate = ap (λ (x : Numbers). x .plate) n;
-      })
-      (λ _ e. absurd (omega (arith, ap kindOf e))))
-      (λ _ e. absurd (omega (arith, ap kindOf e)))
-      (λ _ e. absurd (omega (arith, ap kindOf e)))
-      (λ _ e. absurd (omega (arith, ap kindOf e)))
-      (λ _ e. absurd (omega (arith, ap kindOf e)))
-      (λ e. absurd (omega (arith, ap kindOf e)))
-
-  -- an end that is touched
-  record IsTouched (s c p n f t : ℕ) : Type 0 where
-    pub over : endSeen w k ≡ true
+  record IsTouched (n f t : ℕ) : Type 0 where
     pub some : noted book writes ≡ 0 → ⊥
-    pub serial : w .state .started ≡ s
-    pub cycles : cyclesOf w k ≡ c
-    pub plate : crcOf (plateOf (leaves w k .ram)) ≡ p
     pub counts : noted book writes ≡ n
     pub firstly : noted book first ≡ f
     pub lastly : noted book last ≡ t
 
-  is-touched : (s c p n f t : ℕ) → seenOf book image w k ≡ touched s c p n f t → IsTouched s c p n f t
-  unfolding kindOf numbersOf endOf
-  is-touched s c p n f t =
-      seen-cases book image w k (λ (x : Event). x ≡ touched s c p n f t → IsTouched s c p n f t)
-      (λ _ e. absurd (omega (arith, ap kindOf e)))
-      (λ h.
-      pick-ind (λ (x : Event). x ≡ touched s c p n f t → IsTouched s c p n f t) (eqb (noted book writes) 0)
-      (λ _ e. absurd (omega (arith, ap kindOf e)))
-      (λ z e.
-      let g = ap numbersOf e in
-      record {
-        over = h;
-        some = eqb-false (noted book writes) 0 z;
-        serial = ap (λ (x : Numbers). x .serial) g;
-        cycles = ap (λ (x : Numbers). x .cycles) g;
-        plate = ap (λ (x : Numbers). x .plate) g;
-        counts = ap (λ (x : Numbers). x .writes) g;
-        firstly = ap (λ (x : Numbers). x .first) g;
-        lastly = ap (λ (x : Numbers). x .last) g;
-      }))
-      (λ _ e. absurd (omega (arith, ap kindOf e)))
-      (λ _ e. absurd (omega (arith, ap kindOf e)))
-      (λ _ e. absurd (omega (arith, ap kindOf e)))
-      (λ _ e. absurd (omega (arith, ap kindOf e)))
-      (λ e. absurd (omega (arith, ap kindOf e)))
-
-  -- an event between them
   record IsMark (s c : ℕ) : Type 0 where
     pub held : w .state .held ≡ true
     pub serial : w .state .started ≡ s
     pub cycles : cyclesOf w k ≡ c
 
-  is-mark : (s c : ℕ) (x : Event) → w .state .held ≡ true → numbersOf x .serial ≡ w .state .started → numbersOf x .cycles ≡ cyclesOf w k
-      → (y : Event) → numbersOf y .serial ≡ s → numbersOf y .cycles ≡ c → x ≡ y → IsMark s c
-  is-mark s c x h a b y f g e =
-      let n = ap numbersOf e in
-      record { held = h; serial = sym a ∙ ap (λ (v : Numbers). v .serial) n ∙ f; cycles = sym b ∙ ap (λ (v : Numbers). v .cycles) n ∙ g }
-
-  stop-held : stopSeen w k ≡ true → w .state .held ≡ true
-  unfolding stopSeen
-  stop-held h = both-left (w .state .held) _ (both-left (running (w .state)) _ h)
-
-  is-stop : (s c : ℕ) → seenOf book image w k ≡ stop s c → IsMark s c
-  unfolding kindOf numbersOf endOf
-  is-stop s c =
-      seen-cases book image w k (λ (x : Event). x ≡ stop s c → IsMark s c)
-      (λ _ e. absurd (omega (arith, ap kindOf e)))
-      (λ _.
-      pick-ind (λ (x : Event). x ≡ stop s c → IsMark s c) (eqb (noted book writes) 0)
-      (λ _ e. absurd (omega (arith, ap kindOf e)))
-      (λ _ e. absurd (omega (arith, ap kindOf e))))
-      (λ _ e. absurd (omega (arith, ap kindOf e)))
-      (λ _ e. absurd (omega (arith, ap kindOf e)))
-      (λ h e. is-mark s c _ (stop-held h) refl refl (stop s c) refl refl e)
-      (λ _ e. absurd (omega (arith, ap kindOf e)))
-      (λ e. absurd (omega (arith, ap kindOf e)))
-
-  is-resume : (s c : ℕ) → seenOf book image w k ≡ resume s c → IsMark s c
-  unfolding kindOf numbersOf endOf resumeSeen
-  is-resume s c =
-      seen-cases book image w k (λ (x : Event). x ≡ resume s c → IsMark s c)
-      (λ _ e. absurd (omega (arith, ap kindOf e)))
-      (λ _.
-      pick-ind (λ (x : Event). x ≡ resume s c → IsMark s c) (eqb (noted book writes) 0)
-      (λ _ e. absurd (omega (arith, ap kindOf e)))
-      (λ _ e. absurd (omega (arith, ap kindOf e))))
-      (λ _ e. absurd (omega (arith, ap kindOf e)))
-      (λ _ e. absurd (omega (arith, ap kindOf e)))
-      (λ _ e. absurd (omega (arith, ap kindOf e)))
-      (λ h e. is-mark s c _ (both-left (w .state .held) _ h) refl refl (resume s c) refl refl e)
-      (λ e. absurd (omega (arith, ap kindOf e)))
-
-  is-dropped : (s c : ℕ) → seenOf book image w k ≡ dropped s c → IsMark s c
-  unfolding kindOf numbersOf endOf dropSeen
-  is-dropped s c =
-      seen-cases book image w k (λ (x : Event). x ≡ dropped s c → IsMark s c)
-      (λ _ e. absurd (omega (arith, ap kindOf e)))
-      (λ _.
-      pick-ind (λ (x : Event). x ≡ dropped s c → IsMark s c) (eqb (noted book writes) 0)
-      (λ _ e. absurd (omega (arith, ap kindOf e)))
-      (λ _ e. absurd (omega (arith, ap kindOf e))))
-      (λ h e. is-mark s c _ (both-left (w .state .held) _ h) refl refl (dropped s c) refl refl e)
-      (λ _ e. absurd (omega (arith, ap kindOf e)))
-      (λ _ e. absurd (omega (arith, ap kindOf e)))
-      (λ _ e. absurd (omega (arith, ap kindOf e)))
-      (λ e. absurd (omega (arith, ap kindOf e)))
-
-  -- a write that landed
   record IsLanded (s a v : ℕ) : Type 0 where
     pub held : w .state .held ≡ true
     pub lands : landsSeen w k (placeOf w k) ≡ true
@@ -327,28 +166,48 @@ module _ (book image : List ℕ) (w : Found) (k : Call) where
     pub place : placeOf w k ≡ a
     pub byte : byteIn k (placeOf w k) ≡ v
 
-  is-landed : (s a v : ℕ) → seenOf book image w k ≡ landed s a v → IsLanded s a v
-  unfolding kindOf numbersOf endOf writeSeen
-  is-landed s a v =
-      seen-cases book image w k (λ (x : Event). x ≡ landed s a v → IsLanded s a v)
-      (λ _ e. absurd (omega (arith, ap kindOf e)))
-      (λ _.
-      pick-ind (λ (x : Event). x ≡ landed s a v → IsLanded s a v) (eqb (noted book writes) 0)
-      (λ _ e. absurd (omega (arith, ap kindOf e)))
-      (λ _ e. absurd (omega (arith, ap kindOf e))))
-      (λ _ e. absurd (omega (arith, ap kindOf e)))
-      (λ h e.
-      let n = ap numbersOf e in
+  abbrev Fact : Event → Type 0
+  Fact none = image ≡ image
+  Fact (start s i r g) = startSeen w k ≡ true
+  Fact (stop s c) = IsMark s c
+  Fact (resume s c) = IsMark s c
+  Fact (dropped s c) = IsMark s c
+  Fact (landed s a v) = IsLanded s a v
+  Fact (whole s c p) = IsEnd s c p × (noted book writes ≡ 0)
+  Fact (touched s c p n f t) = IsEnd s c p × IsTouched n f t
+
+  mark : w .state .held ≡ true → IsMark (w .state .started) (cyclesOf w k)
+  mark h = record { held = h; serial = refl; cycles = refl }
+
+  fact-end : endSeen w k ≡ true → Fact (endOf book (w .state .started) (cyclesOf w k) (crcOf (plateOf (leaves w k .ram))))
+  unfolding endOf
+  fact-end h =
+      let e : IsEnd (w .state .started) (cyclesOf w k) (crcOf (plateOf (leaves w k .ram))) = record { over = h; serial = refl; cycles = refl; plate = refl } in
+      pick-ind Fact (eqb (noted book writes) 0)
+      (λ z. (e, eqb-true (noted book writes) 0 z))
+      (λ z. (e, record { some = eqb-false (noted book writes) 0 z; counts = refl; firstly = refl; lastly = refl }))
+
+  facts : Fact (seenOf book image w k)
+  unfolding dropSeen writeSeen stopSeen resumeSeen
+  facts =
+      seen-cases book image w k Fact
+      (λ h. h)
+      fact-end
+      (λ h. mark (both-left (w .state .held) (isReset k) h))
+      (λ h.
       record {
         held = both-left (w .state .held) (landsSeen w k (placeOf w k)) h;
         lands = both-right (w .state .held) (landsSeen w k (placeOf w k)) h;
-        serial = ap (λ (x : Numbers). x .serial) n;
-        place = ap (λ (x : Numbers). x .cycles) n;
-        byte = ap (λ (x : Numbers). x .plate) n;
+        serial = refl;
+        place = refl;
+        byte = refl;
       })
-      (λ _ e. absurd (omega (arith, ap kindOf e)))
-      (λ _ e. absurd (omega (arith, ap kindOf e)))
-      (λ e. absurd (omega (arith, ap kindOf e)))
+      (λ h. mark (both-left (w .state .held) _ (both-left (running (w .state)) _ h)))
+      (λ h. mark (both-left (w .state .held) _ h))
+      refl
+
+  fact : (e : Event) → seenOf book image w k ≡ e → Fact e
+  fact e h = subst Fact h facts
 
 -- ---- lists that split in one way
 
@@ -391,7 +250,7 @@ module _ (rom ram store image : List ℕ) where
       begins-here : startSeen (after (fresh ram store) (callsOf rom w₀ (s .before))) kb ≡ true
       begins-here =
           ap (λ (x : Found). startSeen x kb) (sym (found-by (s .before)))
-          ∙ start-told (leftBy rom w₀ (s .before) .book) (wb .image) (found wb) kb serial (s .checksum) (s .row) (s .registers) (s .begins)
+          ∙ fact (leftBy rom w₀ (s .before) .book) (wb .image) (found wb) kb (start serial (s .checksum) (s .row) (s .registers)) (s .begins)
 
       since-begun : found (sessionAfter s) ≡ leaves (after (fresh ram store) (callsOf rom w₀ (s .before))) kb
       since-begun =
@@ -424,7 +283,7 @@ module _ (rom ram store image : List ℕ) where
           }
 
     -- two are one
-    pub one-begun : {serial : ℕ} (s other : Begun rom w₀ lines serial) → OneBegun s other
+    pub one-begun : {serial n : ℕ} (s : Begun rom w₀ lines serial) (other : Begun rom w₀ lines n) → OneBegun s other
     unfolding to-start
     one-begun s other =
         let o : callsOf rom w₀ (other .before) ≡ callsOf rom w₀ (s .before) = only-start (to-start s) (to-start other) .before in
@@ -488,7 +347,7 @@ module _ (rom ram store image : List ℕ) where
       unfolding the-begun
       started-with more cycles e = record {
         begun = the-begun;
-        one = one-begun the-begun;
+        one = λ n other. one-begun the-begun other;
         address = s .address;
         byte = s .byte;
         write = is-write .0;
@@ -726,30 +585,33 @@ module _ (rom ram store image : List ℕ) (lines : List (List ℕ)) (line : List
   pub whole-told : Bytes ram → (serial cycles plate : ℕ) → nextEvent rom (atReset ram store image) lines line ≡ whole serial cycles plate
       → WholeTold rom (atReset ram store image) lines line serial cycles plate
   whole-told bytes serial cycles plate e =
-      let is = is-whole (leftBy rom (atReset ram store image) lines .book) (here .image) (found here) call serial cycles plate e in
+      let f = fact (leftBy rom (atReset ram store image) lines .book) (here .image) (found here) call (whole serial cycles plate) e in
+      let is = f .0 in
       let s = the-start (end-held (found here) call (is .over)) in
       subst (λ (n : ℕ). WholeTold rom (atReset ram store image) lines line n cycles plate) (is .serial)
       (subst (λ (n : ℕ). WholeTold rom (atReset ram store image) lines line (here .state .started) n plate) (is .cycles)
       (subst (λ (n : ℕ). WholeTold rom (atReset ram store image) lines line (here .state .started) (cyclesOf (found here) call) n) (is .plate)
-      (the-whole rom ram store image lines s line (is .over) bytes (is .none))))
+      (the-whole rom ram store image lines s line (is .over) bytes (f .1))))
 
   -- Touched: and if it is `touched`, some line since its start landed in the area, the first and the last that did with these numbers
   pub touched-told : (serial cycles plate writes first last : ℕ) → nextEvent rom (atReset ram store image) lines line ≡ touched serial cycles plate writes first last
       → TouchedTold rom (atReset ram store image) lines line serial cycles plate writes first last
   touched-told serial cycles plate writes first last e =
       let w₀ = atReset ram store image in
-      let is = is-touched (leftBy rom w₀ lines .book) (here .image) (found here) call serial cycles plate writes first last e in
+      let g = fact (leftBy rom w₀ lines .book) (here .image) (found here) call (touched serial cycles plate writes first last) e in
+      let is = g .0 in
+      let how = g .1 in
       let s = the-start (end-held (found here) call (is .over)) in
       let f = noted (leftBy rom w₀ lines .book) book.first in
       let t = noted (leftBy rom w₀ lines .book) book.last in
       let v = noted (leftBy rom w₀ lines .book) book.writes in
-      subst (λ (n : ℕ). TouchedTold rom w₀ lines line serial cycles plate writes first n) (is .lastly)
-      (subst (λ (n : ℕ). TouchedTold rom w₀ lines line serial cycles plate writes n t) (is .firstly)
-      (subst (λ (n : ℕ). TouchedTold rom w₀ lines line serial cycles plate n f t) (is .counts)
+      subst (λ (n : ℕ). TouchedTold rom w₀ lines line serial cycles plate writes first n) (how .lastly)
+      (subst (λ (n : ℕ). TouchedTold rom w₀ lines line serial cycles plate writes n t) (how .firstly)
+      (subst (λ (n : ℕ). TouchedTold rom w₀ lines line serial cycles plate n f t) (how .counts)
       (subst (λ (n : ℕ). TouchedTold rom w₀ lines line n cycles plate v f t) (is .serial)
       (subst (λ (n : ℕ). TouchedTold rom w₀ lines line (here .state .started) n plate v f t) (is .cycles)
       (subst (λ (n : ℕ). TouchedTold rom w₀ lines line (here .state .started) (cyclesOf (found here) call) n v f t) (is .plate)
-      (the-touched rom ram store image lines s line (is .over) (is .some)))))))
+      (the-touched rom ram store image lines s line (is .over) (how .some)))))))
 
   -- Whole said: an end since whose start no line landed in the area is said to be whole
   pub whole-said : (s : Begun rom (atReset ram store image) lines (here .state .started)) → AreaLeft (found (sessionAfter s)) (callsOf rom (sessionAfter s) (s .since))
@@ -777,22 +639,22 @@ module _ (rom ram store image : List ℕ) (lines : List (List ℕ)) (line : List
   -- Stopped, resumed, dropped: the serial is that of one start, and the cycles are the counts since, added up
   pub stop-told : (serial cycles : ℕ) → nextEvent rom (atReset ram store image) lines line ≡ stop serial cycles
       → Started rom (atReset ram store image) lines (line ∷ []) serial cycles
-  stop-told serial cycles e = mark-told serial cycles (is-stop (leftBy rom (atReset ram store image) lines .book) (here .image) (found here) call serial cycles e)
+  stop-told serial cycles e = mark-told serial cycles (fact (leftBy rom (atReset ram store image) lines .book) (here .image) (found here) call (stop serial cycles) e)
 
   pub resume-told : (serial cycles : ℕ) → nextEvent rom (atReset ram store image) lines line ≡ resume serial cycles
       → Started rom (atReset ram store image) lines (line ∷ []) serial cycles
-  resume-told serial cycles e = mark-told serial cycles (is-resume (leftBy rom (atReset ram store image) lines .book) (here .image) (found here) call serial cycles e)
+  resume-told serial cycles e = mark-told serial cycles (fact (leftBy rom (atReset ram store image) lines .book) (here .image) (found here) call (resume serial cycles) e)
 
   pub dropped-told : (serial cycles : ℕ) → nextEvent rom (atReset ram store image) lines line ≡ dropped serial cycles
       → Started rom (atReset ram store image) lines (line ∷ []) serial cycles
-  dropped-told serial cycles e = mark-told serial cycles (is-dropped (leftBy rom (atReset ram store image) lines .book) (here .image) (found here) call serial cycles e)
+  dropped-told serial cycles e = mark-told serial cycles (fact (leftBy rom (atReset ram store image) lines .book) (here .image) (found here) call (dropped serial cycles) e)
 
   -- Landed: the line writes that byte, which landed in that place, and the capture held then has that serial
   pub landed-told : (serial spot byte : ℕ) → nextEvent rom (atReset ram store image) lines line ≡ landed serial spot byte
       → LandedTold rom (atReset ram store image) lines line serial spot byte
   landed-told serial spot byte e =
       let w₀ = atReset ram store image in
-      let is = is-landed (leftBy rom w₀ lines .book) (here .image) (found here) call serial spot byte e in
+      let is = fact (leftBy rom w₀ lines .book) (here .image) (found here) call (landed serial spot byte) e in
       let at = placeOf (found here) call in
       let s = the-start (is .held) in
       let g = the-begun rom ram store image lines s in
@@ -800,7 +662,7 @@ module _ (rom ram store image : List ℕ) (lines : List (List ℕ)) (line : List
       subst (λ (n : ℕ). LandedTold rom w₀ lines line n spot byte) (is .serial)
       (record {
         begun = g;
-        one = one-begun rom ram store image lines g;
+        one = λ n other. one-begun rom ram store image lines g other;
         address = t .0;
         write = t .1 ∙ ap (Write (t .0)) (is .byte);
         lands = ap (landsSeen (found here) call) (sym (is .place)) ∙ is .lands;

@@ -1,23 +1,22 @@
 -- A worked recording: lines from reset of which an audit says that their capture ended whole, so that nobody doubts that this can be met. Assumes nothing.
 use mathlib.Core.Path.{_≡_, refl, sym, ap, _∙_}
-use mathlib.Core.Bool.{Bool, true, false}
+use mathlib.Core.Bool.{true, false}
 use mathlib.Core.List.{List, [], _∷_, _++_, map}
 use Prim.Native.Nat.{ℕ, _%_, _<_}
 use native.Mathlib.Omega.{arith}
 use lib.Count.{ones, onesIn}
 use lib.Dec.{eqb, leb}
-use lib.ListN.{replicate}
 use borrow.Author.Tests.{leb-true, ne-eqb}
 use Rattle.laws.proofs.Bools.{not-both, both-right}
 use Rattle.crc.specs.Crc.{crcOf}
 use Rattle.timing.specs.Lent.{banksAllowed}
 use Rattle.controller.specs.Table.{onCartridge}
 use Rattle.plates.specs.Grey.{plateOf}
-use Rattle.history.specs.History.{Call, read, write, tick, fresh, leaves, after, counted}
+use Rattle.history.specs.History.{Call, read, write, tick, fresh, leaves, after}
 use Rattle.history.specs.History.{World as Found}
 use Rattle.history.specs.Seen.{isReset, inArea, endSeen, AreaLeft, Start, worldAfter}
 use Rattle.history.proofs.Track.{atReset as trackAtReset, writeAccepted, tickAccepted, cyclesOf as totalTold, runsIn, ends, toRegisters, starts, registersAt, toRam, placeOf, lands, enabling, selecting, storing, beginning, running, ending, controlled, registered, written, next, follow, told}
-use Rattle.history.proofs.Since.{goesOn, Held, Whole, landed, Clear, tallyTold, startsTold}
+use Rattle.history.proofs.Since.{goesOn, Whole, landed, Clear, tallyTold, startsTold}
 use Rattle.history.proofs.Shows.{starts-told}
 use Rattle.history.proofs.Counts.{started-counts}
 use Rattle.history.proofs.Cycles.{cycles}

@@ -1,11 +1,11 @@
 -- The book's count of bus writes in the picture area: it is 0 exactly where none landed there since the start. Assumes nothing.
-use mathlib.Core.Path.{_≡_, refl, sym, ap, subst, _∙_}
-use mathlib.Core.Bool.{Bool, true, false, not, _&&_, _||_, and-false}
+use mathlib.Core.Path.{_≡_, refl, sym, ap, _∙_}
+use mathlib.Core.Bool.{Bool, true, false, not, _&&_, and-false}
 use mathlib.Core.List.{List, [], _∷_, _++_}
 use Prim.Native.Nat.{ℕ, _+_, _<_, _≤_}
 use native.Mathlib.Omega.{arith}
-use lib.Dec.{eqb, leb, ltb}
-use lib.ListN.{length, getD, set, length-set}
+use lib.Dec.{eqb, ltb}
+use lib.ListN.{length, set, length-set}
 use lib.Seq.{getD-set-same, getD-set-other}
 use borrow.Author.Tests.{eqb-true, eqb-false, eq-eqb, ne-eqb, lt-ltb, ltb-false}
 use Rattle.laws.specs.Pick.{pick}
@@ -13,7 +13,7 @@ use Rattle.laws.proofs.Bools.{either, not-both, both-left, both-right, both-hol
 use Rattle.laws.proofs.Pick.{pick-ind}
 use Rattle.controller.specs.State.{resetState}
 use Rattle.cartridge.specs.Bus.{registersOn, ramWritable, ramPlace}
-use Rattle.history.specs.History.{Call, reset, read, write, tick, inspect, choose, place, leaves, after}
+use Rattle.history.specs.History.{Call, reset, read, write, tick, inspect, choose, place, leaves}
 use Rattle.history.specs.History.{World as Found}
 use Rattle.history.specs.Seen.{isReset, startSeen, endSeen, heldThrough, inArea, accepted, goesTo, goesIn, landsSeen, landedSeen, byteIn, AreaLeft}
 use Rattle.lines.specs.declared.line.Frame.{Frame}

@@ -43,17 +43,18 @@ sessionAfter {rom} {w} s = leftBy rom w (s .before ++ (s .line ∷ [])) .world
 abbrev pub countsSince : {rom : List ℕ} {w : World} {lines : List (List ℕ)} {serial : ℕ} → Begun rom w lines serial → List (List ℕ) → ℕ
 countsSince {rom} s more = counted (found (sessionBefore s)) (callsOf rom (sessionBefore s) (s .line ∷ (s .since ++ more)))
 
--- two such starts of the same lines are one
-pub record OneBegun {rom : List ℕ} {w : World} {lines : List (List ℕ)} {serial : ℕ} (s other : Begun rom w lines serial) : Type 0 where
+-- two such starts of the same lines, with whatever serials, are one
+pub record OneBegun {rom : List ℕ} {w : World} {lines : List (List ℕ)} {serial n : ℕ} (s : Begun rom w lines serial) (other : Begun rom w lines n) : Type 0 where
   pub before : other .before ≡ s .before
   pub line : other .line ≡ s .line
   pub since : other .since ≡ s .since
 
--- what an event with this serial and these cycles tells, after lines and with these more: it has such a start, and one; the image whose checksum the start said is the one lent
--- then; the registers that it said are those in force then, with the new register 0; and the cycles are the counts since, added up
+-- what an event with this serial and these cycles tells, after lines and with these more: it has such a start, and one; the image whose checksum
+-- the start said is the one lent then; the registers that it said are those in force then, with the new register 0; and the cycles are the counts
+-- since, added up
 pub record Started (rom : List ℕ) (w : World) (lines more : List (List ℕ)) (serial cycles : ℕ) : Type 0 where
   pub begun : Begun rom w lines serial
-  pub one : (other : Begun rom w lines serial) → OneBegun begun other
+  pub one : (n : ℕ) (other : Begun rom w lines n) → OneBegun begun other
   pub address : ℕ
   pub byte : ℕ
   pub write : frameOf (begun .line) ≡ Write address byte
@@ -74,7 +75,7 @@ pub record WholeTold (rom : List ℕ) (w : World) (lines : List (List ℕ)) (lin
 -- what a write that landed tells: its capture has such a start, and one; and the line writes this byte, which landed in this place of the RAM
 pub record LandedTold (rom : List ℕ) (w : World) (lines : List (List ℕ)) (line : List ℕ) (serial place byte : ℕ) : Type 0 where
   pub begun : Begun rom w lines serial
-  pub one : (other : Begun rom w lines serial) → OneBegun begun other
+  pub one : (n : ℕ) (other : Begun rom w lines n) → OneBegun begun other
   pub address : ℕ
   pub write : frameOf line ≡ Write address byte
   pub lands : landsSeen (found (leftBy rom w lines .world)) (callOf rom (leftBy rom w lines .world .image) (frameOf line)) place ≡ true
