@@ -1,3 +1,4 @@
 -- Laws of what is seen of a line.
 pub mod Sights
 pub mod Lines
+pub mod Pieces

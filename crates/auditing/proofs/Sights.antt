@@ -7,6 +7,7 @@ use native.Mathlib.Omega.{arith}
 use lib.Dec.{eqb, ltb}
 use lib.ListN.{length, getD, drop, drop-of-length-le}
 use lib.Seq.{getD-take, getD-drop}
+use mir.Val.{boolByte}
 use borrow.Author.Tests.{le-ltb}
 use Rattle.laws.specs.Pick.{pick}
 use Rattle.timing.specs.Lent.{ramAllowed}
@@ -21,10 +22,11 @@ use Rattle.lines.proofs.Placed.{placed-none}
 use Rattle.shades.specs.Shades.{exported}
 use Rattle.plates.specs.Grey.{plateOf, exportRows, exportMeans}
 use Rattle.plates.proofs.Exports.{export-refuses}
+use Rattle.wording.specs.Events.{heldText}
 use Rattle.wording.specs.Aside.{Put}
 use Rattle.auditing.specs.declared.sight.Sight.{Sight}
 use Rattle.auditing.specs.declared.event.Kind.the-variants as kinds
-use Rattle.auditing.specs.Aside.{sightOf, goesAt, kindOf}
+use Rattle.auditing.specs.Aside.{sightOf, goesAt, kindOf, heldSaying}
 
 -- whether a bus write goes to the RAM, test by test
 module _ (c : Controller) (a : ℕ) where
@@ -72,3 +74,18 @@ put-same {out} {at = at} e p = record { text = p .text ∙ ap (λ x. placed out 
 
 pub put-nothing : (out : List ℕ) (at : ℕ) → Put out at [] 256 out at
 put-nothing out at = record { text = sym (placed-none out at); end = omega arith; few = omega arith }
+
+-- that a capture is held, or nothing
+module _ (n : ℕ) (c : Controller) (s : Sight) (e : s ≡ sightOf c) where
+  pub held-said : s .held ≡ true → heldText n (s .serial) (s .elapsed) ≡ heldSaying n c
+  held-said h =
+      (λ i. heldText n (e i .serial) (e i .elapsed))
+      ∙ ap (λ (t : Bool). pick t (heldText n (c .started) (c .elapsed .0)) []) (sym (sym (λ i. e i .held) ∙ h))
+
+  pub none-said : s .held ≡ false → [] ≡ heldSaying n c
+  none-said h = ap (λ (t : Bool). pick t (heldText n (c .started) (c .elapsed .0)) []) (sym (sym (λ i. e i .held) ∙ h))
+
+-- a flag as a number
+pub as-one : (t : Bool) → boolByte t ≡ pick t 1 0
+as-one true = refl
+as-one false = refl

@@ -2,7 +2,7 @@
 -- What the functions promise of a line: what is seen of a record and asked by a frame, the kind of an event, and its values. Assumes nothing.
 use mathlib.Core.Path.{_≡_}
 use mathlib.Core.Bool.{Bool, true, false, not, _&&_}
-use mathlib.Core.List.{List}
+use mathlib.Core.List.{List, []}
 use Prim.Native.Nat.{ℕ, _+_, _*_, _/_, _%_, _≤_}
 use lib.Dec.{eqb, ltb}
 use lib.ListN.{length, set}
@@ -16,6 +16,7 @@ use Rattle.lines.specs.declared.line.Frame.{Frame}
 use Rattle.lines.specs.declared.line.Frame.the-variants as frames
 use Rattle.lines.specs.Hex.{placed}
 use Rattle.session.specs.Session.{World}
+use Rattle.wording.specs.Events.{heldText}
 use Rattle.auditing.specs.declared.sight.Sight.{Sight}
 use Rattle.auditing.specs.declared.sight.Asks.{Asks}
 use Rattle.auditing.specs.declared.event.Kind.{Kind}
@@ -27,6 +28,7 @@ use Rattle.auditing.specs.Book.{noted, more, oneMore, lines, row}
 use Rattle.auditing.specs.Book as book
 use Rattle.auditing.specs.Event.{Event, none, start, stop, resume, dropped, landed, whole, touched, endOf}
 use Rattle.auditing.specs.Line.{eventText, eventCounted, Audited}
+use Rattle.auditing.specs.Pieces.{Standing}
 
 -- what is seen of a state
 abbrev pub sightOf : Controller → Sight
@@ -122,3 +124,11 @@ pub record Audits (a : Audited) (w : World) (out : List ℕ) (at : ℕ) (b′ ou
   pub text : out′ ≡ placed out at (a .text)
   pub end : at′ ≡ at + length (a .text)
   pub few : at′ ≤ at + 256
+
+-- where an audit stands
+abbrev pub standing : World → List ℕ → List ℕ → List ℕ → ℕ → Standing
+standing w b line out used = record { world = w; book = b; line = line; out = out; used = used }
+
+-- a capture that is held at the end, on a line
+abbrev pub heldSaying : ℕ → Controller → List ℕ
+heldSaying n c = pick (c .held) (heldText n (c .started) (c .elapsed .0)) []

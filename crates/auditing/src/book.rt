@@ -12,6 +12,10 @@ ghost use Rattle.auditing.specs.Line.{touchCounted, eventCounted};
 ghost use Rattle.auditing.specs.Aside.{lineBy, eventFrom};
 
 // Where each number stands.
+pub(crate) const WRITTEN: usize = 0;
+
+pub(crate) const HELD: usize = 1;
+
 pub(crate) const LINES: usize = 2;
 
 pub(crate) const ROW: usize = 3;
@@ -22,17 +26,17 @@ pub(crate) const FIRST: usize = 5;
 
 pub(crate) const LAST: usize = 6;
 
-const MALFORMED: usize = 7;
+pub(crate) const MALFORMED: usize = 7;
 
-const REFUSED: usize = 8;
+pub(crate) const REFUSED: usize = 8;
 
-const CAPTURES: usize = 9;
+pub(crate) const CAPTURES: usize = 9;
 
-const ENDED: usize = 10;
+pub(crate) const ENDED: usize = 10;
 
-const WHOLE: usize = 11;
+pub(crate) const WHOLE: usize = 11;
 
-const DROPPED: usize = 12;
+pub(crate) const DROPPED: usize = 12;
 
 // One more; the largest number stays.
 pub(crate) fn one_more(n: u64) -> u64

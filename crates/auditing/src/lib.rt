@@ -2,5 +2,6 @@
 pub mod book;
 pub mod event;
 pub mod line;
+pub mod piece;
 pub mod sight;
 pub mod text;
