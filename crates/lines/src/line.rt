@@ -28,19 +28,26 @@ pub enum Frame {
     Malformed,
 }
 
-// No branch tells digits from letters: which comes next is not to be guessed.
-pub(crate) fn digit_of(b: u8) -> Digit
-    ensures { λ r. ⌜ r ≡ digitOf b ⌝ }
+// Whether a byte is a digit. No branch tells digits from letters: which comes next is not to be guessed.
+fn is_digit(b: u8) -> bool
+    ensures { λ r. ⌜ r ≡ isHex b ⌝ }
 {
     let past = std::num::wrapping_sub_u8(b, b'0');
     if 22 < past {
-        return Digit::NotHex; // not in 30h to 46h
+        return false; // not in 30h to 46h
     }
     let gap = std::num::wrapping_sub_u8(b, 58);
-    if gap < 7 {
-        return Digit::NotHex; // in 3Ah to 40h
+    7 <= gap // not in 3Ah to 40h
+}
+
+// A byte as a digit.
+pub(crate) fn digit_of(b: u8) -> Digit
+    ensures { λ r. ⌜ r ≡ digitOf b ⌝ }
+{
+    if is_digit(b) {
+        return Digit::Value(b % 16 + b / 64 * 9);
     }
-    Digit::Value(b % 16 + b / 64 * 9)
+    Digit::NotHex
 }
 
 // The number that n digits of a line, from `at` on, spell, one digit after the other.
@@ -59,18 +66,6 @@ fn digits_at(line: &[u8], at: usize, n: usize) -> Number
         i += 1;
     }
     Number::Value(v)
-}
-
-// Whether a byte is a digit.
-fn is_digit(b: u8) -> bool
-    ensures { λ r. ⌜ r ≡ isHex b ⌝ }
-{
-    let past = std::num::wrapping_sub_u8(b, b'0');
-    if 22 < past {
-        return false; // not in 30h to 46h
-    }
-    let gap = std::num::wrapping_sub_u8(b, 58);
-    7 <= gap // not in 3Ah to 40h
 }
 
 // Whether two things hold.
