@@ -202,3 +202,71 @@ hex-within line n k m h l =
     let back = second-half (hexPart line 0 k) (hexPart line (0 + k) (m + (n - k - m))) (sym (hex-parts line 0 k (m + (n - k - m))) ∙ ap (hexPart line 0) (sym e) ∙ h) in
     let from : hexPart line k (m + (n - k - m)) ≡ true = rw zero-add at back in
     first-half (hexPart line k m) (hexPart line (k + m) (n - k - m)) (sym (hex-parts line k m (n - k - m)) ∙ from)
+
+-- a part's digits, one by one
+is-true : (t : Bool) → (t ≡ false → ⊥) → t ≡ true
+is-true true f = refl
+is-true false f = absurd (f refl)
+
+pub digit-within : (line : List ℕ) (at n k : ℕ) → hexPart line at n ≡ true → k < n → isHex (getD line (at + k) 0) ≡ true
+digit-within line at n k h l = is-true (isHex (getD line (at + k) 0)) (λ f. clash (sym (hex-stops line at k n l f) ∙ h))
+
+-- what is left after the tests of a byte tells whether it is a digit
+pub gap-tells : (b past gap : ℕ) → (past + 48) % 256 ≡ b → (gap + 58) % 256 ≡ b → past ≤ 22 → gap < 256 → leb 7 gap ≡ isHex b
+gap-tells b past gap p q h s =
+    split 6 gap
+    (λ l. le-leb 7 gap (omega arith) ∙ sym (inside b past gap p q h (omega arith) s .0))
+    (λ l. lt-leb 7 gap (omega arith) ∙ sym (in-gap b gap q (omega arith)))
+
+-- what a digit is worth, with no test
+pub hex-worth : (b : ℕ) → isHex b ≡ true → b % 16 + b / 64 * 9 ≡ worth b
+hex-worth b h =
+    split 0x39 b
+    (λ l.
+    let m = sym (above b l) ∙ h in
+    let low : 0x41 ≤ b = leb-true 0x41 b (first-half (leb 0x41 b) (leb b 0x46) m) in
+    let top : b ≤ 0x46 = leb-true b 0x46 (second-half (leb 0x41 b) (leb b 0x46) m) in
+    simp (lt-leb b 0x39 l) (omega arith))
+    (λ l.
+    split b 0x30
+    (λ m. absurd (clash (simp (lt-leb 0x30 b m, lt-leb 0x41 b (omega arith)) at h)))
+    (λ m. simp (le-leb b 0x39 l) (omega arith)))
+
+-- no digit spells 0
+pub number-zero : (line : List ℕ) (at : ℕ) → numberAt line at 0 ≡ 0
+unfolding numberAt
+number-zero line at = refl
+
+-- four digits, each by its place
+pub four-number : (line : List ℕ) (at a b c d : ℕ) → a ≡ worth (getD line at 0) → b ≡ worth (getD line (at + 1) 0) → c ≡ worth (getD line (at + 2) 0) → d ≡ worth (getD line (at + 3) 0) → a * 4096 + b * 256 + c * 16 + d ≡ numberAt line at 4
+four-number line at a b c d ea eb ec ed =
+    let first = ap (λ (n : ℕ). worth (getD line n 0)) (add-zero at) in
+    omega (arith, number-zero line at, number-more line at 0, number-more line at 1, number-more line at 2, number-more line at 3, first)
+
+-- eight digits are four and four
+pub eight-number : (line : List ℕ) (at : ℕ) → numberAt line at 4 * 65536 + numberAt line (at + 4) 4 ≡ numberAt line at 8
+eight-number line at =
+    omega (
+      arith,
+      number-more line at 4,
+      number-more line at 5,
+      number-more line at 6,
+      number-more line at 7,
+      number-zero line (at + 4),
+      number-more line (at + 4) 0,
+      number-more line (at + 4) 1,
+      number-more line (at + 4) 2,
+      number-more line (at + 4) 3,
+      same 0,
+      same 1,
+      same 2,
+      same 3,
+    )
+  where
+    same : (k : ℕ) → worth (getD line (at + 4 + k) 0) ≡ worth (getD line (at + (4 + k)) 0)
+    same k = ap (λ (n : ℕ). worth (getD line n 0)) (add-assoc at 4 k)
+
+pub eight-halves : (line : List ℕ) (at : ℕ) → hexPart line at 8 ≡ true → (hexPart line at 4 ≡ true) × (hexPart line (at + 4) 4 ≡ true)
+eight-halves line at h =
+    let b = sym (hex-parts line at 4 4) ∙ h in
+    (first-half (hexPart line at 4) (hexPart line (at + 4) 4) b, second-half (hexPart line at 4) (hexPart line (at + 4) 4) b)

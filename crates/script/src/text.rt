@@ -81,12 +81,22 @@ fn holding(line: [u8; 261], held: usize) -> Reader
     Reader { line: kept, held }
 }
 
-// Where the line that begins at a place of a piece ends: at its LF, or at the piece's end.
+// Where the line that begins at a place of a piece ends: at its LF, or at the piece's end. Eight bytes are looked at in a row, as long as there are so many.
 pub fn line_end(piece: &[u8], from: usize) -> usize
     requires { ⌜ from ≤ length (now piece) ⌝ }
     ensures { λ r. ⌜ Ends (now (piece .entry)) from r ⌝ }
 {
     let mut i = from;
+    while 8 <= piece.len() - i {
+        let mut k = 0;
+        while k < 8 {
+            if piece[i + k] == 0x0A {
+                return i + k;
+            }
+            k += 1;
+        }
+        i += 8;
+    }
     while i < piece.len() {
         if piece[i] == 0x0A {
             return i;

@@ -6,13 +6,14 @@ use Prim.Native.Nat.{ℕ, zero, suc, _+_, _-_, _*_, _/_, _%_, _^_, _<_, _≤_}
 use native.Mathlib.Nat.{add-zero}
 use native.Mathlib.Omega.{arith}
 use lib.Bits.{bitAnd}
-use lib.Dec.{eqb, eqb→eq}
+use lib.Dec.{eqb, eqb→eq, ltb}
 use lib.ListN.{getD}
 use lib.Pow.{pow-pos}
-use borrow.Author.Tests.{eq-eqb, ne-eqb}
+use borrow.Author.Tests.{eq-eqb, ne-eqb, lt-ltb, le-ltb}
 use Rattle.laws.specs.Bits.{bitOf}
 use Rattle.laws.specs.Lists.{listed}
 use Rattle.laws.specs.Pick.{pick}
+use Rattle.laws.proofs.Order.{split}
 use Rattle.laws.proofs.Packed.{listed-at, listed-ext}
 use Rattle.laws.proofs.Table.{at}
 use Rattle.lighting.specs.Light.{turned}
@@ -45,6 +46,13 @@ tone-bit b m added hb hm = rw (and-weight b m hb hm) (by (bitOf b m) (omega arit
     by (suc zero) h = simp (ne-eqb (1 * 2 ^ m) 0 (λ e. omega (arith, pow-pos m))) (omega arith)
     by (suc (suc v)) h = absurd (omega arith)
 
+-- the negative of what two bits add where they are set, by what they add where they are clear
+pub negative-sum : (s t : Bool) (low high : ℕ) → low + high < 256 → 255 - low - high + pick s low 0 + pick t high 0 ≡ 255 - (pick s 0 low + pick t 0 high)
+negative-sum true true low high h = omega arith
+negative-sum true false low high h = omega arith
+negative-sum false true low high h = omega arith
+negative-sum false false low high h = omega arith
+
 -- the weight of bit b of the eight of byte t
 pub eight-weight : (t b : ℕ) → b < 8 → getD (128 ∷ 64 ∷ 32 ∷ 16 ∷ 8 ∷ 4 ∷ 2 ∷ 1 ∷ []) b 0 ≡ weightOf (8 * t + b)
 eight-weight t b h =
@@ -64,11 +72,12 @@ eight-weight t b h =
 
 -- ---- a row
 
--- column b of the eight of byte t
-pub spread-same : (ram : List ℕ) (at t b : ℕ) → b < 8 → getD ram (at + 16 * t) 0 ≡ spreadOf ram at (8 * t + b)
-spread-same ram at t b h =
-    let e : (8 * t + b) / 8 ≡ t = omega arith in
-    rw e
+-- column x of the sixteen of bytes i and j, those of tiles 2t and 2t + 1
+pub half-same : (ram : List ℕ) (at t x i j : ℕ) → x < 16 → i ≡ at + 32 * t → j ≡ at + 32 * t + 16 → pick (ltb x 8) (getD ram i 0) (getD ram j 0) ≡ spreadOf ram at (16 * t + x)
+half-same ram at t x i j h e f =
+    split 7 x
+    (λ l. let q : j ≡ at + 16 * ((16 * t + x) / 8) = omega arith in simp (le-ltb x 8 (omega arith)) (ap (λ (n : ℕ). getD ram n 0) q))
+    (λ l. let q : i ≡ at + 16 * ((16 * t + x) / 8) = omega arith in simp (lt-ltb x 8 (omega arith)) (ap (λ (n : ℕ). getD ram n 0) q))
 
 -- where row y starts
 abbrev pub rowAt : ℕ → ℕ

@@ -3,12 +3,15 @@ use controller::Refusal;
 use controller::Verdict;
 use controller::judge::no_ram;
 use controller::judge::no_room;
-use lighting::turn;
 ghost use mathlib.Core.Path.{_≡_};
 ghost use mathlib.Core.Bool.{Bool};
 ghost use Prim.Native.Nat.{_+_, _<_, _≤_};
+ghost use lib.Bits.{bitAnd};
+ghost use lib.Dec.{eqb, ltb};
 ghost use lib.ListN.{length};
 ghost use Rattle.laws.specs.Lists.{listed};
+ghost use Rattle.laws.specs.Pick.{pick};
+ghost use Rattle.lighting.specs.Light.{turned};
 ghost use Rattle.controller.specs.Outcome.{verdictNumber};
 ghost use Rattle.controller.specs.Table.{lowest};
 ghost use Rattle.shades.specs.Shades.{shadeNth, outputNumber, outputValue, exported, shadesRows, shadesMeans};
@@ -36,28 +39,54 @@ pub fn weights() -> [u8; 128]
     out
 }
 
-// The sixteen bytes of a row of tiles from a place on, each at its eight columns.
-fn spread(ram: &[u8], at: usize) -> [u8; 128]
-    requires { ⌜ (at + 240 < length (now ram)) × (at < 8192) ⌝ }
-    ensures { λ r. ⌜ r ≡ listed (spreadOf (now (ram .entry)) at) 128 ⌝ }
+// The byte of a column of two tiles: that of the first tile in columns 0 to 7.
+fn half(x: usize, first: u8, second: u8) -> u8
+    ensures { λ r. ⌜ r ≡ pick (ltb x 8) first second ⌝ }
 {
-    let mut out = [0u8; 128];
-    for t in 0..16 {
-        for b in 0..8 {
-            out[8 * t + b] = ram[at + 16 * t];
-        }
+    if x < 8 {
+        return first;
     }
-    out
+    second
 }
 
-// What a bit of a byte adds where it is set.
-fn tone(byte: u8, weight: u8, added: u8) -> u8
-    ensures { λ r. ⌜ (r ≡ toneOf byte weight added) × (r ≤ added) ⌝ }
+// The low and the high bytes of a row of sixteen tiles from a place on, each at its eight columns. Two tiles at a time: their four bytes are one vector each.
+fn spread(ram: &[u8], at: usize, l: &mut [u8], h: &mut [u8])
+    requires { ⌜ (at + 241 < length (now ram)) × (at < 8192) ⌝ }
+    requires { ⌜ (length (now l) ≡ 128) × (length (now h) ≡ 128) ⌝ }
+    ensures { λ _. ⌜ (now (l .exit) ≡ listed (spreadOf (now (ram .entry)) at) 128) × (now (h .exit) ≡ listed (spreadOf (now (ram .entry)) (at + 1)) 128) ⌝ }
+{
+    for t in 0..8 {
+        let p = ram[at + 32 * t];
+        let q = ram[at + 32 * t + 1];
+        let r = ram[at + 32 * t + 16];
+        let s = ram[at + 32 * t + 17];
+        for x in 0..16 {
+            l[16 * t + x] = half(x, p, r);
+            h[16 * t + x] = half(x, q, s);
+        }
+    }
+}
+
+// What a bit of a byte makes, by whether it is clear or set.
+fn share(byte: u8, weight: u8, clear: u8, set: u8) -> u8
+    ensures { λ r. ⌜ (r ≡ pick (eqb (bitAnd byte weight) 0) clear set) × (r ≤ clear + set) ⌝ }
 {
     if byte & weight == 0 {
-        return 0;
+        return clear;
     }
-    added
+    set
+}
+
+// A pixel: what its two bits add where they are set, or the negative of it, which is what they add where they are clear.
+fn pixel(l: u8, h: u8, weight: u8, low: u8, high: u8, negative: bool) -> u8
+    requires { ⌜ low + high < 256 ⌝ }
+    ensures { λ r. ⌜ r ≡ turned negative (toneOf l weight low + toneOf h weight high) ⌝ }
+{
+    if negative {
+        let rest = 255 - low - high;
+        return rest + share(l, weight, low, 0) + share(h, weight, high, 0);
+    }
+    share(l, weight, 0, low) + share(h, weight, 0, high)
 }
 
 // All pixels, row by row, with no branch on a pixel: `low` for its low bit and `high` for its high bit, or the negative of that.
@@ -68,13 +97,11 @@ fn put_rows(ram: &[u8], weights: &[u8; 128], low: u8, high: u8, negative: bool, 
 {
     for y in 0..112 {
         let at = tiles::PICTURE + 256 * (y / 8) + 2 * (y % 8);
-        let l = spread(ram, at);
-        let h = spread(ram, at + 1);
+        let mut l = [0u8; 128];
+        let mut h = [0u8; 128];
+        spread(ram, at, &mut l, &mut h);
         for x in 0..128 {
-            pixels[128 * y + x] = turn(
-                negative,
-                tone(l[x], weights[x], low) + tone(h[x], weights[x], high),
-            );
+            pixels[128 * y + x] = pixel(l[x], h[x], weights[x], low, high, negative);
         }
     }
 }

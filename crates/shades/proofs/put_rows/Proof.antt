@@ -1,9 +1,8 @@
 -- `shades::put_rows` meets its contract. The invariant: the pixels put so far. Assumes nothing.
-use mathlib.Core.Path.{ap, ap₂, _∙_}
+use mathlib.Core.Path.{_∙_}
 use Prim.Native.Nat.{ℕ, _+_, _-_, _*_, _≤_}
 use native.Mathlib.Omega.{arith}
 use borrow.Author.Needs.{needs}
-use Rattle.lighting.specs.Light.{turned}
 use Rattle.laws.proofs.Filled.{Filled, filled-none, filled-more, filled-end, filled-to}
 use Rattle.shades.specs.Aside.{toneNth}
 use Rattle.shades.proofs.Tones.{tone-same}
@@ -24,16 +23,12 @@ abbrev μ-loop : tie.MeasureT-loop
 
 loop2-again : tie.Need-loop2-again Inv-loop2 μ-loop2 Inv-loop μ-loop
 loop2-again c =
-    let t₂ = c .before in
-    let t₁ = t₂ .before .before in
-    let l = t₁ .before .before .before .loop2 in
-    let s₂ = t₁ .before .before .before .before in
-    let s₁ = s₂ .before in
-    let o = s₁ .before .before .loop in
-    let k = s₁ .before .before .before .before .shared-slice-known in
-    let s = s₁ .before .before .before .before .before in
-    let sum = ap (turned (s .args .negative)) (ap₂ (λ (a b : ℕ). a + b) (t₁ .tone .ensures .0) (t₂ .tone2 .ensures .0)) in
-    let same = c .turn .ensures ∙ sum ∙ tone-same (s .args .ram .now) (λ i. k .given i .fits) (o .y) (l .x) (omega arith) _ _ _ (s .args .low) (s .args .high) (s .args .negative) (s₁ .spread .ensures) (s₂ .spread2 .ensures) (s .pre .1 .0) in
+    let l = c .before .before .before .loop2 in
+    let b = c .before .before .before .before .before .before in
+    let o = b .before .before .before .before .loop in
+    let k = b .before .before .before .before .before .before .shared-slice-known in
+    let s = b .before .before .before .before .before .before .before in
+    let same = c .pixel .ensures ∙ tone-same (s .args .ram .now) (λ i. k .given i .fits) (o .y) (l .x) (omega arith) _ _ _ (s .args .low) (s .args .high) (s .args .negative) (b .spread .ensures .0) (b .spread .ensures .1) (s .pre .1 .0) in
     (omega arith, filled-to _ (filled-more _ _ (l .inv .1) (omega arith) same) (omega arith))
 
 pub put-rows-spec : {M : Type 1} → statement M
@@ -49,21 +44,17 @@ put-rows-spec =
     (λ c. omega arith)
     (λ c. omega arith)
     (λ c. omega arith)
-    (λ c κs. (omega arith, omega arith))
-    (λ c. omega arith)
-    (λ c κs. (omega arith, omega arith))
-    (λ c. (omega arith, filled-to _ (c .before .before .before .loop .inv .1) (omega arith)))
     (λ c. search needs)
     (λ c. search needs)
-    (λ c κs. search needs)
+    (λ c κs. ((omega arith, omega arith), (search needs, search needs)))
+    (λ c. (omega arith, filled-to _ (c .before .before .before .before .before .before .loop .inv .1) (omega arith)))
+    (λ c. search needs)
     (λ c. search needs)
     (λ c. search needs)
     (λ c κs. search needs)
-    (λ c. omega (arith, c .tone2 .ensures .1, c .before .before .tone .ensures .1, c .before .before .before .before .before .before .before .before .before .before .before .before .pre .1 .1))
-    (λ c κs. search needs)
     (λ c. omega arith)
     (λ c. omega arith)
-    (λ c. omega (arith, c .before .before .before .before .before .before .loop2 .inv .1 .whole))
+    (λ c. omega (arith, c .before .before .before .loop2 .inv .1 .whole))
     (λ c. omega arith)
     (λ c. omega arith)
     loop2-again
