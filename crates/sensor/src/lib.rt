@@ -4,40 +4,51 @@ use filters::hold;
 use filters::plain;
 use lighting::Setting;
 ghost use mathlib.Core.Path.{_≡_};
-ghost use Prim.Native.Nat.{_+_, _-_, _%_, _<_};
-ghost use lib.ListN.{length};
+ghost use Prim.Native.Nat.{_+_, _-_, _%_, _<_, _≤_};
+ghost use lib.IntN.{pos, _-ℤ_};
+ghost use lib.ListN.{length, getD};
 ghost use Rattle.lighting.specs.Taken.{Sane, Asked};
 ghost use Rattle.lighting.specs.Light.{Inside, byteAt};
 ghost use Rattle.sensor.specs.Nine.{leftOf, rightOf, signedAt, threeOf, nineOf, step4};
 ghost use Rattle.sensor.specs.Row.{passes, step5};
 ghost use Rattle.sensor.specs.Shade.{valueAt, shadeOf, pixelAt};
 
-// The columns beside one; beyond the left and the right edge of the sensor the edge is repeated.
-fn left(x: usize) -> usize
-    ensures { λ r. ⌜ r ≡ leftOf x ⌝ }
+// The places in the store of the columns beside one, from the place of that one; beyond the left and the right edge of the sensor the edge is
+// repeated. Worked out so, rather than from the row and a column beside, a loop over columns becomes vector code also where an address has 32 bits.
+fn left(x: usize, at: usize) -> usize
+    requires { ⌜ (x ≤ at) × (at < 16384) ⌝ }
+    ensures { λ r. ⌜ r + x ≡ at + leftOf x ⌝ }
 {
     if x == 0 {
-        return 0;
+        return at;
     }
-    x - 1
+    at - 1
 }
 
-fn right(x: usize) -> usize
-    requires { ⌜ x < 128 ⌝ }
-    ensures { λ r. ⌜ r ≡ rightOf x ⌝ }
+fn right(x: usize, at: usize) -> usize
+    requires { ⌜ (x < 128) × (x ≤ at) × (at < 16384) ⌝ }
+    ensures { λ r. ⌜ r + x ≡ at + rightOf x ⌝ }
 {
     if x < 127 {
-        return x + 1;
+        return at + 1;
     }
-    127
+    at
 }
 
-// The lit value at a column and a row of the store, less 128: rows 7 to 121 are all that is asked for.
+// The lit value at a place in the store, less 128.
+fn less_at(store: &[u8], at: usize) -> i32
+    requires { ⌜ at < length (now store) ⌝ }
+    ensures { λ r. ⌜ r ≡ pos (getD (now (store .entry)) at 0) -ℤ pos 128 ⌝ }
+{
+    store[at] as i32 - 128
+}
+
+// The same at a column and a row: rows 7 to 121 are all that is asked for.
 fn signed_at(store: &[u8], x: usize, row: usize) -> i32
     requires { ⌜ Inside (length (now store)) x row 7 121 ⌝ }
     ensures { λ r. ⌜ r ≡ signedAt (byteAt (now (store .entry))) x row ⌝ }
 {
-    store[row * 128 + x] as i32 - 128
+    less_at(store, row * 128 + x)
 }
 
 // The three signed values around a column of a row.
@@ -45,10 +56,11 @@ fn three(store: &[u8], x: usize, row: usize) -> [i32; 3]
     requires { ⌜ Inside (length (now store)) x row 7 121 ⌝ }
     ensures { λ r. ⌜ r ≡ threeOf (byteAt (now (store .entry))) x row ⌝ }
 {
+    let at = row * 128 + x;
     [
-        signed_at(store, left(x), row),
-        signed_at(store, x, row),
-        signed_at(store, right(x), row),
+        less_at(store, left(x, at)),
+        less_at(store, at),
+        less_at(store, right(x, at)),
     ]
 }
 
