@@ -7,6 +7,7 @@ ghost use mathlib.Core.Path.{_≡_};
 ghost use Prim.Native.Nat.{_+_, _-_, _%_, _<_, _≤_};
 ghost use lib.IntN.{pos, _-ℤ_};
 ghost use lib.ListN.{length, getD};
+ghost use Rattle.laws.specs.Pick.{pick};
 ghost use Rattle.lighting.specs.Taken.{Sane, Asked};
 ghost use Rattle.lighting.specs.Light.{Inside, byteAt};
 ghost use Rattle.sensor.specs.Nine.{leftOf, rightOf, signedAt, threeOf, nineOf, step4};
@@ -134,24 +135,26 @@ pub fn value(store: &[u8], set: Setting, x: usize, row: usize) -> u8
     (step_5(store, set, x, row) + 128) as u8
 }
 
+// One of two bytes, by a test, which is no branch.
+pub fn either(t: bool, a: u8, b: u8) -> u8
+    ensures { λ r. ⌜ r ≡ pick t a b ⌝ }
+{
+    if t {
+        return a;
+    }
+    b
+}
+
 // Step 6: the shade of a value, by the matrix's element.
-pub fn shade(regs: &[u8; 54], x: usize, row: usize, v: u8) -> u8
+pub fn shade(regs: &[u8], x: usize, row: usize, v: u8) -> u8
+    requires { ⌜ length (now regs) ≡ 54 ⌝ }
     ensures { λ r. ⌜ r ≡ shadeOf (now (regs .entry)) x row v ⌝ }
 {
     let at = 6 + 3 * (4 * (row % 4) + x % 4);
     let low = regs[at];
     let mid = regs[at + 1];
     let high = regs[at + 2];
-    if v < low {
-        return 3;
-    }
-    if v < mid {
-        return 2;
-    }
-    if v < high {
-        return 1;
-    }
-    0
+    either(v < low, 3, either(v < mid, 2, either(v < high, 1, 0)))
 }
 
 // A pixel of the sensor: its value, 0 to 255, and its shade.
@@ -161,9 +164,9 @@ pub struct Pixel {
 }
 
 // The pixel at a column and a row. `set` is what `regs` ask.
-pub fn pixel_at(store: &[u8], set: Setting, regs: &[u8; 54], x: usize, row: usize) -> Pixel
+pub fn pixel_at(store: &[u8], set: Setting, regs: &[u8], x: usize, row: usize) -> Pixel
     requires { ⌜ Inside (length (now store)) x row 8 119 ⌝ }
-    requires { ⌜ Asked set (now regs) ⌝ }
+    requires { ⌜ Asked set (now regs) × (length (now regs) ≡ 54) ⌝ }
     ensures { λ r. ⌜ r ≡ pixelAt (byteAt (now (store .entry))) (now (regs .entry)) x row ⌝ }
 {
     let v = value(store, set, x, row);
