@@ -22,7 +22,6 @@ use controller::state::can_exist;
 use layout::decode;
 use layout::encode;
 use layout::four_at;
-use layout::registers_at;
 use timing::Cycles;
 ghost use mathlib.Core.Path.{_≡_};
 ghost use mathlib.Core.Bool.{true};
@@ -197,9 +196,8 @@ fn run(state: &mut [u8], ram: &mut [u8], store: &[u8], n: u32) -> u32
     requires { ⌜ (isRecord (now state) ≡ true) × (running (decoded (now state)) ≡ true) × (decoded (now state) .elapsed .0 < totalOf (decoded (now state) .taken)) × (8192 ≤ length (now ram)) × (length (now store) ≡ 16384) ⌝ }
     ensures { λ r. ⌜ effect 0 r (now (state .exit)) (now (ram .exit)) (now (store .entry)) ≡ inBytes (ticked (now (store .entry)) (ticks (byteAt (now (store .entry))) n (from (decoded (now (state .entry))) (now (ram .entry))))) ⌝ }
 {
-    let taken = registers_at(state, 67);
     let elapsed = Cycles(four_at(state, 5));
-    let passed = pass(&taken, elapsed, ram, store, n);
+    let passed = pass(&state[67..], elapsed, ram, store, n);
     leave(state, passed);
     passed.ran
 }

@@ -1,7 +1,9 @@
 // From light to shade, step 4: the filters, each a function of nine signed values.
 ghost use mathlib.Core.Path.{_≡_};
 ghost use Prim.Native.Nat.{_+_, _-_, _/_, _<_, _≤_};
-ghost use lib.IntN.{natAbs};
+ghost use lib.IntN.{pos, natAbs};
+ghost use lib.Signed.{nonNeg, quotZ};
+ghost use Rattle.laws.specs.Pick.{pick};
 ghost use Rattle.filters.specs.Edge.{held, Small, acrossOf, uprightOf, aroundOf, enhanced, extracted, mode2, mode3, modeC, modeD, modeE, modeF, edgeOf};
 ghost use Rattle.filters.specs.Aside.{SmallRow, threeIn, nineIn, isPlain};
 
@@ -70,13 +72,29 @@ fn around(n: [[i16; 3]; 3]) -> i16
     4 * n[1][1] - n[0][1] - n[2][1] - n[1][2] - n[1][0]
 }
 
+// 3 for a number below zero and else 0, from its sign bits.
+fn below_zero(v: i16) -> u16
+    ensures { λ r. ⌜ r ≡ pick (nonNeg v) 0 3 ⌝ }
+{
+    let signs = ((v >> 15) as i32 & 0xFFFF) as u16;
+    signs >> 14
+}
+
+// A quarter of a number, cut toward zero: by shifts, which every target has for a vector, as it may not have a division.
+fn quarter(v: i16) -> i16
+    requires { ⌜ natAbs v ≤ 20992 ⌝ }
+    ensures { λ r. ⌜ r ≡ quotZ v (pos 4) ⌝ }
+{
+    (v + below_zero(v) as i16) >> 2
+}
+
 // P + d times α, the quarters cut toward zero.
 fn enhance(quarters: u8, n: [[i16; 3]; 3], d: i16) -> i16
     requires { ⌜ Small n ⌝ }
     requires { ⌜ (quarters ≤ 20) × (natAbs d ≤ 1024) ⌝ }
     ensures { λ r. ⌜ r ≡ enhanced quarters n d ⌝ }
 {
-    (4 * n[1][1] + quarters as i16 * d) / 4
+    quarter(4 * n[1][1] + quarters as i16 * d)
 }
 
 // d times α, the quarters cut toward zero.
@@ -84,7 +102,7 @@ fn extract(quarters: u8, d: i16) -> i16
     requires { ⌜ (quarters ≤ 20) × (natAbs d ≤ 1024) ⌝ }
     ensures { λ r. ⌜ r ≡ extracted quarters d ⌝ }
 {
-    quarters as i16 * d / 4
+    quarter(quarters as i16 * d)
 }
 
 // The filters of modes 2, 3, C, D, E and F, worked out in 16 bits.

@@ -51,7 +51,7 @@ fn two_at(state: &[u8], at: usize) -> u16
 }
 
 // 54 bytes from a place on.
-pub fn registers_at(state: &[u8], at: usize) -> [u8; 54]
+fn registers_at(state: &[u8], at: usize) -> [u8; 54]
     requires { ⌜ at + 54 ≤ length (now state) ⌝ }
     ensures { λ r. ⌜ r ≡ registersAt (now (state .entry)) at ⌝ }
 {

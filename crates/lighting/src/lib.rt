@@ -32,7 +32,8 @@ fn quarters_of(byte: u8) -> u8
 }
 
 // The exposure of the registers.
-fn exposure_of(regs: &[u8; 54]) -> u16
+fn exposure_of(regs: &[u8]) -> u16
+    requires { ⌜ length (now regs) ≡ 54 ⌝ }
     ensures { λ r. ⌜ r ≡ exposureOf (now (regs .entry)) ⌝ }
 {
     wide(regs[2]) * 256 + wide(regs[3])
@@ -40,7 +41,8 @@ fn exposure_of(regs: &[u8; 54]) -> u16
 
 impl Setting {
     // What 54 registers ask.
-    pub fn of(regs: &[u8; 54]) -> Setting
+    pub fn of(regs: &[u8]) -> Setting
+        requires { ⌜ length (now regs) ≡ 54 ⌝ }
         ensures { λ r. ⌜ Asked r (now (regs .entry)) ⌝ }
     {
         Setting {

@@ -4,40 +4,52 @@ use filters::hold;
 use filters::plain;
 use lighting::Setting;
 ghost use mathlib.Core.Path.{_≡_};
-ghost use Prim.Native.Nat.{_+_, _-_, _%_, _<_};
-ghost use lib.ListN.{length};
+ghost use Prim.Native.Nat.{_+_, _-_, _%_, _<_, _≤_};
+ghost use lib.IntN.{pos, _-ℤ_};
+ghost use lib.ListN.{length, getD};
+ghost use Rattle.laws.specs.Pick.{pick};
 ghost use Rattle.lighting.specs.Taken.{Sane, Asked};
 ghost use Rattle.lighting.specs.Light.{Inside, byteAt};
 ghost use Rattle.sensor.specs.Nine.{leftOf, rightOf, signedAt, threeOf, nineOf, step4};
 ghost use Rattle.sensor.specs.Row.{passes, step5};
 ghost use Rattle.sensor.specs.Shade.{valueAt, shadeOf, pixelAt};
 
-// The columns beside one; beyond the left and the right edge of the sensor the edge is repeated.
-fn left(x: usize) -> usize
-    ensures { λ r. ⌜ r ≡ leftOf x ⌝ }
+// The places in the store of the columns beside one, from the place of that one; beyond the left and the right edge of the sensor the edge is
+// repeated. Worked out so, rather than from the row and a column beside, a loop over columns becomes vector code also where an address has 32 bits.
+fn left(x: usize, at: usize) -> usize
+    requires { ⌜ (x ≤ at) × (at < 16384) ⌝ }
+    ensures { λ r. ⌜ r + x ≡ at + leftOf x ⌝ }
 {
     if x == 0 {
-        return 0;
+        return at;
     }
-    x - 1
+    at - 1
 }
 
-fn right(x: usize) -> usize
-    requires { ⌜ x < 128 ⌝ }
-    ensures { λ r. ⌜ r ≡ rightOf x ⌝ }
+fn right(x: usize, at: usize) -> usize
+    requires { ⌜ (x < 128) × (x ≤ at) × (at < 16384) ⌝ }
+    ensures { λ r. ⌜ r + x ≡ at + rightOf x ⌝ }
 {
     if x < 127 {
-        return x + 1;
+        return at + 1;
     }
-    127
+    at
 }
 
-// The lit value at a column and a row of the store, less 128: rows 7 to 121 are all that is asked for.
+// The lit value at a place in the store, less 128.
+fn less_at(store: &[u8], at: usize) -> i32
+    requires { ⌜ at < length (now store) ⌝ }
+    ensures { λ r. ⌜ r ≡ pos (getD (now (store .entry)) at 0) -ℤ pos 128 ⌝ }
+{
+    store[at] as i32 - 128
+}
+
+// The same at a column and a row: rows 7 to 121 are all that is asked for.
 fn signed_at(store: &[u8], x: usize, row: usize) -> i32
     requires { ⌜ Inside (length (now store)) x row 7 121 ⌝ }
     ensures { λ r. ⌜ r ≡ signedAt (byteAt (now (store .entry))) x row ⌝ }
 {
-    store[row * 128 + x] as i32 - 128
+    less_at(store, row * 128 + x)
 }
 
 // The three signed values around a column of a row.
@@ -45,10 +57,11 @@ fn three(store: &[u8], x: usize, row: usize) -> [i32; 3]
     requires { ⌜ Inside (length (now store)) x row 7 121 ⌝ }
     ensures { λ r. ⌜ r ≡ threeOf (byteAt (now (store .entry))) x row ⌝ }
 {
+    let at = row * 128 + x;
     [
-        signed_at(store, left(x), row),
-        signed_at(store, x, row),
-        signed_at(store, right(x), row),
+        less_at(store, left(x, at)),
+        less_at(store, at),
+        less_at(store, right(x, at)),
     ]
 }
 
@@ -122,24 +135,26 @@ pub fn value(store: &[u8], set: Setting, x: usize, row: usize) -> u8
     (step_5(store, set, x, row) + 128) as u8
 }
 
+// One of two bytes, by a test, which is no branch.
+pub fn either(t: bool, a: u8, b: u8) -> u8
+    ensures { λ r. ⌜ r ≡ pick t a b ⌝ }
+{
+    if t {
+        return a;
+    }
+    b
+}
+
 // Step 6: the shade of a value, by the matrix's element.
-pub fn shade(regs: &[u8; 54], x: usize, row: usize, v: u8) -> u8
+pub fn shade(regs: &[u8], x: usize, row: usize, v: u8) -> u8
+    requires { ⌜ length (now regs) ≡ 54 ⌝ }
     ensures { λ r. ⌜ r ≡ shadeOf (now (regs .entry)) x row v ⌝ }
 {
     let at = 6 + 3 * (4 * (row % 4) + x % 4);
     let low = regs[at];
     let mid = regs[at + 1];
     let high = regs[at + 2];
-    if v < low {
-        return 3;
-    }
-    if v < mid {
-        return 2;
-    }
-    if v < high {
-        return 1;
-    }
-    0
+    either(v < low, 3, either(v < mid, 2, either(v < high, 1, 0)))
 }
 
 // A pixel of the sensor: its value, 0 to 255, and its shade.
@@ -149,9 +164,9 @@ pub struct Pixel {
 }
 
 // The pixel at a column and a row. `set` is what `regs` ask.
-pub fn pixel_at(store: &[u8], set: Setting, regs: &[u8; 54], x: usize, row: usize) -> Pixel
+pub fn pixel_at(store: &[u8], set: Setting, regs: &[u8], x: usize, row: usize) -> Pixel
     requires { ⌜ Inside (length (now store)) x row 8 119 ⌝ }
-    requires { ⌜ Asked set (now regs) ⌝ }
+    requires { ⌜ Asked set (now regs) × (length (now regs) ≡ 54) ⌝ }
     ensures { λ r. ⌜ r ≡ pixelAt (byteAt (now (store .entry))) (now (regs .entry)) x row ⌝ }
 {
     let v = value(store, set, x, row);

@@ -1,22 +1,12 @@
 // Step 6 of light to shade by the row: the shades of a row of values as two bits a pixel, eight to a byte. No step turns on a value,
 // so that many columns are done at a time.
+use sensor::either;
 ghost use mathlib.Core.Path.{_≡_};
 ghost use Prim.Native.Nat.{_+_, _*_, _/_, _%_, _<_};
 ghost use lib.ListN.{length, getD};
-ghost use Rattle.laws.specs.Pick.{pick};
 ghost use Rattle.laws.specs.Lists.{listed};
 ghost use Rattle.sensor.specs.Shade.{shadeBy};
 ghost use Rattle.strips.specs.Aside.{lowOf, highOf, spreadOf, lowBy, highBy, sumOf, Weighed};
-
-// One of two bytes, by a test.
-fn either(t: bool, a: u8, b: u8) -> u8
-    ensures { λ r. ⌜ r ≡ pick t a b ⌝ }
-{
-    if t {
-        return a;
-    }
-    b
-}
 
 // What a value adds to the byte of low bits, and to that of high bits, w the weight of its place.
 fn low_weight(v: u8, l: u8, m: u8, h: u8, w: u8) -> u8

@@ -45,8 +45,8 @@ fn put_pixel(ram: &mut [u8], x: usize, y: usize, shade: u8)
 }
 
 // Puts pixel j of the picture, row by row: picture row y is sensor row y + 8.
-fn put_nth(ram: &mut [u8], store: &[u8], set: Setting, regs: &[u8; 54], j: usize)
-    requires { ⌜ (j < 14336) × (8192 ≤ length (now ram)) × (length (now store) ≡ 16384) × (Asked set (now regs)) ⌝ }
+fn put_nth(ram: &mut [u8], store: &[u8], set: Setting, regs: &[u8], j: usize)
+    requires { ⌜ (j < 14336) × (8192 ≤ length (now ram)) × (length (now store) ≡ 16384) × (Asked set (now regs)) × (length (now regs) ≡ 54) ⌝ }
     ensures { λ _. ⌜ now (ram .exit) ≡ putNth (byteAt (now (store .entry))) (now (regs .entry)) j (now (ram .entry)) ⌝ }
 {
     let x = j % 128;
@@ -55,24 +55,39 @@ fn put_nth(ram: &mut [u8], store: &[u8], set: Setting, regs: &[u8; 54], j: usize
     put_pixel(ram, x, y, pixel.shade);
 }
 
+// The registers as an array of their own, for whole rows.
+fn whole(regs: &[u8]) -> [u8; 54]
+    requires { ⌜ length (now regs) ≡ 54 ⌝ }
+    ensures { λ r. ⌜ r ≡ now (regs .entry) ⌝ }
+{
+    let mut out = [0u8; 54];
+    for i in 0..54 {
+        out[i] = regs[i];
+    }
+    out
+}
+
 // Puts pixel j of the picture, or the eight from j on where they stand in the same two bytes and all are to be put, or whole rows where j
 // begins one: the next to put.
-fn put_some(
-    ram: &mut [u8],
-    store: &[u8],
-    set: Setting,
-    regs: &[u8; 54],
-    j: usize,
-    to: usize,
-) -> usize
-    requires { ⌜ (j < to) × (to ≤ 14336) × (8192 ≤ length (now ram)) × (length (now store) ≡ 16384) × (Asked set (now regs)) ⌝ }
+fn put_some(ram: &mut [u8], store: &[u8], set: Setting, regs: &[u8], j: usize, to: usize) -> usize
+    requires { ⌜ (j < to) × (to ≤ 14336) × (8192 ≤ length (now ram)) × (length (now store) ≡ 16384) × (Asked set (now regs)) × (length (now regs) ≡ 54) ⌝ }
     ensures { λ r. ⌜ (now (ram .exit) ≡ pixels (byteAt (now (store .entry))) (now (regs .entry)) j r (now (ram .entry))) × (j < r) × (r ≤ to) ⌝ }
 {
     if j % 128 == 0 {
         let first = j / 128;
         let end = to / 128;
         if first < end {
-            put_rows(ram, PICTURE, store, set, regs, first, end - first);
+            // what rows are lent is made here, so that a tick of a few cycles puts none of it in memory
+            let taken = whole(regs);
+            put_rows(
+                ram,
+                PICTURE,
+                store,
+                Setting::of(&taken),
+                &taken,
+                first,
+                end - first,
+            );
             return 128 * end;
         }
     }
@@ -89,15 +104,8 @@ fn put_some(
 }
 
 // Puts the pixels from..to of the picture, in order.
-pub fn put_pixels(
-    ram: &mut [u8],
-    store: &[u8],
-    set: Setting,
-    regs: &[u8; 54],
-    from: usize,
-    to: usize,
-)
-    requires { ⌜ (from ≤ to) × (to ≤ 14336) × (8192 ≤ length (now ram)) × (length (now store) ≡ 16384) × (Asked set (now regs)) ⌝ }
+pub fn put_pixels(ram: &mut [u8], store: &[u8], set: Setting, regs: &[u8], from: usize, to: usize)
+    requires { ⌜ (from ≤ to) × (to ≤ 14336) × (8192 ≤ length (now ram)) × (length (now store) ≡ 16384) × (Asked set (now regs)) × (length (now regs) ≡ 54) ⌝ }
     ensures { λ _. ⌜ now (ram .exit) ≡ pixels (byteAt (now (store .entry))) (now (regs .entry)) from to (now (ram .entry)) ⌝ }
 {
     let mut j = from;
@@ -113,9 +121,9 @@ pub struct TileRow {
 }
 
 // The eight pixels of picture row y from column 8 * t on. `set` is what `regs` ask.
-fn tile_row(store: &[u8], set: Setting, regs: &[u8; 54], t: usize, y: usize) -> TileRow
+fn tile_row(store: &[u8], set: Setting, regs: &[u8], t: usize, y: usize) -> TileRow
     requires { ⌜ (length (now store) ≡ 16384) × (t < 16) × (y < 112) ⌝ }
-    requires { ⌜ Asked set (now regs) ⌝ }
+    requires { ⌜ Asked set (now regs) × (length (now regs) ≡ 54) ⌝ }
     ensures { λ r. ⌜ (r .low ≡ lowByte (byteAt (now (store .entry))) (now (regs .entry)) t y) × (r .high ≡ highByte (byteAt (now (store .entry))) (now (regs .entry)) t y) ⌝ }
 {
     let mut low: u8 = 0;
@@ -190,9 +198,9 @@ pub fn fill(store: &[u8], set: Setting, regs: &[u8; 54], out: &mut [u8])
 }
 
 // Pixels j to j + 7 of the picture, which stand in the same two bytes.
-fn put_row(ram: &mut [u8], store: &[u8], set: Setting, regs: &[u8; 54], j: usize)
+fn put_row(ram: &mut [u8], store: &[u8], set: Setting, regs: &[u8], j: usize)
     requires { ⌜ (8192 ≤ length (now ram)) × (length (now store) ≡ 16384) × (j % 8 ≡ 0) × (j + 8 ≤ 14336) ⌝ }
-    requires { ⌜ Asked set (now regs) ⌝ }
+    requires { ⌜ Asked set (now regs) × (length (now regs) ≡ 54) ⌝ }
     ensures { λ _. ⌜ now (ram .exit) ≡ pixels (byteAt (now (store .entry))) (now (regs .entry)) j (j + 8) (now (ram .entry)) ⌝ }
 {
     let t = j % 128 / 8;

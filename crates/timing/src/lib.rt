@@ -127,7 +127,8 @@ pub fn total(regs: &[u8]) -> Cycles
 }
 
 // The clock after which the picture's pixels begin: row 8 of the sensor, the seventh or the eighth after the first that is read.
-fn picture_from(regs: &[u8; 54]) -> Clocks
+fn picture_from(regs: &[u8]) -> Clocks
+    requires { ⌜ length (now regs) ≡ 54 ⌝ }
     ensures { λ r. ⌜ (r .0 ≡ pictureFrom (now (regs .entry))) × (r .0 < 1000000) ⌝ }
 {
     let reading = READING + 8 * exposure(regs);
@@ -153,8 +154,8 @@ fn done_by(first: Clocks, elapsed: Cycles) -> usize
 }
 
 // Writes what falls between two numbers of elapsed cycles of a capture, from a store of lit values.
-pub fn write_between(ram: &mut [u8], store: &[u8], regs: &[u8; 54], elapsed: Cycles, then: Cycles)
-    requires { ⌜ (elapsed .0 ≤ then .0) × (8192 ≤ length (now ram)) × (length (now store) ≡ 16384) ⌝ }
+pub fn write_between(ram: &mut [u8], store: &[u8], regs: &[u8], elapsed: Cycles, then: Cycles)
+    requires { ⌜ (elapsed .0 ≤ then .0) × (8192 ≤ length (now ram)) × (length (now store) ≡ 16384) × (length (now regs) ≡ 54) ⌝ }
     ensures { λ _. ⌜ now (ram .exit) ≡ pixels (byteAt (now (store .entry))) (now (regs .entry)) (doneBy (now (regs .entry)) (elapsed .0)) (doneBy (now (regs .entry)) (then .0)) (now (ram .entry)) ⌝ }
 {
     let first = picture_from(regs);

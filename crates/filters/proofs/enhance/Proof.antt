@@ -1,9 +1,11 @@
--- `filters::enhance` meets its contract: each step is an expression whose bound computes, and the last is the definition's. Assumes nothing.
+-- `filters::enhance` meets its contract: each step is an expression whose bound computes, and a quarter of the last is the definition's. Assumes nothing.
 use borrow.Author.Needs.{needs}
-use lib.Dec.{lit<}
+use mathlib.Core.Path.{ap, _∙_}
 use lib.IntN.{pos}
+use lib.Signed.{quotZ}
 use mir.Syntax.{w16}
-use Rattle.laws.proofs.Signed.{E, val, add, mul, quo, fits, read}
+use Rattle.laws.proofs.Signed.{E, val, add, mul, fits, got, read}
+use Rattle.filters.proofs.Quarters.{sized}
 use Rattle.filters.proofs.Sums.{times}
 use Rattle.filters.proofs.enhance.Statement.{statement}
 use Rattle.filters.proofs.enhance.Tie as tie
@@ -18,9 +20,6 @@ module _ (c : tie.Start) where
   abbrev sum : E w16
   sum = add p m
 
-  abbrev cut : E w16
-  cut = quo sum 4
-
 pub enhance-spec : {M : Type 1} → statement M
 enhance-spec =
     tie.close
@@ -31,5 +30,5 @@ enhance-spec =
     (λ c. search needs)
     (λ c. fits (m (c .before)) tt)
     (λ c. fits (sum (c .before)) tt)
-    (λ c. (lit< tt, fits (cut (c .before)) tt))
-    (λ c. read (cut (c .before)) tt))
+    (λ c κs. sized (sum (c .before)) tt tt)
+    (λ c. got w16 (c .quarter .ok) (c .quarter .ensures) ∙ ap (λ z. quotZ z (pos 4)) (read (sum (c .before .before)) tt)))

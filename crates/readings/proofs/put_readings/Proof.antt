@@ -13,7 +13,7 @@ returns : tie.Need-returns
 unfolding header readingsOf reading
 returns c =
     let p = c .before .before in
-    let h = p .before .before .before .before .before in
+    let h = p .before .before .before .before .before .before in
     rw (p .put-values .ensures, p .before .before .of .ensures .same, h .put-header .ensures, drop-drop 14336 15)
 
 pub put-readings-spec : {M : Type 1} → statement M

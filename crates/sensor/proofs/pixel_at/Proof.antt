@@ -6,7 +6,7 @@ use Rattle.sensor.proofs.pixel_at.Tie as tie
 
 returns : tie.Need-returns
 unfolding shadeAt
-returns c = rw (← (c .before .before .before .pre .1 .same), ← (c .before .value .ensures), c .shade .ensures)
+returns c = rw (← (c .before .before .before .before .pre .1 .0 .same), ← (c .before .value .ensures), c .shade .ensures)
 
 pub pixel-at-spec : {M : Type 1} → statement M
 pixel-at-spec = tie.close (tie.spec (λ c κs. search needs) (λ c κs. search needs) returns)

@@ -11,7 +11,7 @@ use Rattle.tiles.proofs.put_nth.Tie as tie
 
 put-pixel-requires : tie.Need-put-pixel-requires
 put-pixel-requires c κs =
-    let a = c .before .before .before .before .args in
+    let a = c .before .before .before .before .before .args in
     omega (arith, shade-same _ _ _ _ _ (c .before .pixel-at .ensures), shade-small (byteAt (a .store .now)) (a .regs .now) (a .j % 128) (a .j / 128 + 8))
 
 returns : tie.Need-returns

@@ -19,7 +19,9 @@ loop-holds : tie.Need-loop-holds Inv-loop μ-loop
 loop-holds c = (omega arith, omega arith, refl, sym (pixels-none _ _ _ _))
 
 put-some-requires : tie.Need-put-some-requires Inv-loop μ-loop
-put-some-requires c κs = (omega arith, omega arith, omega arith, omega arith, c .before .before .before .before .before .pre .4)
+put-some-requires c κs =
+    let p = c .before .before .before .before .before .before .pre in
+    (omega arith, omega arith, omega arith, omega arith, p .4, p .5)
 
 loop-less : tie.Need-loop-less Inv-loop μ-loop
 loop-less c = omega arith
@@ -27,7 +29,7 @@ loop-less c = omega arith
 loop-again : tie.Need-loop-again Inv-loop μ-loop
 loop-again c =
     let l = c .before .before .before .before .before .loop in
-    let a = c .before .before .before .before .before .before .before .before .args in
+    let a = c .before .before .before .before .before .before .before .before .before .args in
     let s = c .before .before .put-some in (
       omega arith,
       omega arith,
@@ -40,7 +42,7 @@ same-length c = omega arith
 
 returns : tie.Need-returns Inv-loop μ-loop
 returns c =
-    let e : c .before .loop .j ≡ c .before .before .before .before .args .to = omega arith in
+    let e : c .before .loop .j ≡ c .before .before .before .before .before .args .to = omega arith in
     rw e at (c .before .loop .inv .3)
 
 pub put-pixels-spec : {M : Type 1} → statement M

@@ -9,8 +9,8 @@ use Rattle.tiles.proofs.put_row.Tie as tie
 
 returns : tie.Need-returns
 returns c =
-    let a = c .before .before .before .args in
-    eight-by (byteAt (a .store .now)) (a .regs .now) (a .j) (a .ram .now) (omega arith) (omega arith) (omega arith) (λ i. omega (arith, c .before .before .slice-known .given i))
+    let a = c .before .before .before .before .args in
+    eight-by (byteAt (a .store .now)) (a .regs .now) (a .j) (a .ram .now) (omega arith) (omega arith) (omega arith) (λ i. omega (arith, c .before .before .before .slice-known .given i))
     (c .tile-row .result .low) (c .tile-row .result .high) (c .tile-row .ensures .0) (c .tile-row .ensures .1)
 
 pub put-row-spec : {M : Type 1} → statement M

@@ -11,13 +11,14 @@ use Rattle.tiles.proofs.put_some.Tie as tie
 
 returns : tie.Need-returns
 returns c =
-    let k = c .before .before .before .before .before .before .before in
+    let w = c .before .before .before .before .before .before .before in
+    let k = w .before .before .before .before .before in
     let a = k .before .args in
     let first = a .j / 128 in
     let count = a .to / 128 - first in
     let e : 8 * (16 * first) ≡ a .j = omega arith in
     let f : 8 * (16 * first + 16 * count) ≡ 128 * (a .to / 128) = omega arith in (
-      c .before .before .put-rows .ensures ∙ rw (e, f) at (pairs-pixels (byteAt (a .store .now)) (a .regs .now) (a .ram .now) (omega arith) (λ i. omega (arith, k .slice-known .given i)) (16 * first) (16 * count) (omega arith)),
+      rw (w .whole .ensures) at (c .before .before .put-rows .ensures) ∙ rw (e, f) at (pairs-pixels (byteAt (a .store .now)) (a .regs .now) (a .ram .now) (omega arith) (λ i. omega (arith, k .slice-known .given i)) (16 * first) (16 * count) (omega arith)),
       omega arith,
       omega arith,
     )
@@ -32,6 +33,9 @@ pub put-some-spec : {M : Type 1} → statement M
 put-some-spec =
     tie.close
     (tie.spec
+    (λ c κs. search needs)
+    (λ c. search needs)
+    (λ c κs. search needs)
     (λ c. search needs)
     (λ c κs. search needs)
     (λ c. search needs)

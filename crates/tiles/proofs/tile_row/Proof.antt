@@ -30,7 +30,7 @@ abbrev μ-loop : tie.MeasureT-loop
 -- there is room for one bit more in each byte, and the shade has two
 room : (c : tie.After-pixel-at Inv-loop μ-loop) → (c .before .before .loop .low < 128) × (c .before .before .loop .high < 128) × (c .pixel-at .result .shade < 4)
 room c =
-    let a = c .before .before .before .before .args in
+    let a = c .before .before .before .before .before .args in
     let l = c .before .before .loop in
     let s = shade-small (byteAt (a .store .now)) (a .regs .now) in (
       omega (arith, packed-room (lows (byteAt (a .store .now)) (a .regs .now) (a .t) (a .y)) (λ b. omega arith) (l .b) (omega arith)),
@@ -41,7 +41,7 @@ room c =
 loop-again : tie.Need-loop-again Inv-loop μ-loop
 loop-again c =
     let p = c .before .before in
-    let a = p .before .before .before .before .args in
+    let a = p .before .before .before .before .before .args in
     let l = p .before .before .loop in (
       omega arith,
       packed-next (lows (byteAt (a .store .now)) (a .regs .now) (a .t) (a .y)) (l .b) (l .low) _ (l .inv .1) (ap (λ (n : ℕ). n % 2) (shade-same _ _ _ _ _ (p .pixel-at .ensures))),

@@ -47,6 +47,7 @@ picture-spec =
     (λ c. search needs)
     returns
     (λ c. search needs)
+    (λ c. search needs)
     (λ c κs. search needs)
     (λ c. search needs)
     light-frame-requires

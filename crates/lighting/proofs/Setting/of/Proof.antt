@@ -12,7 +12,7 @@ unfolding settingOf invertedOf modeOf quartersOf kindOf
 returns c =
     let e = c .before .before .before .before .before .before .before in record {
       same = rw (c .before .quarters-of .ensures, e .exposure-of .ensures);
-      sane = record { quarters = rw (c .before .quarters-of .ensures) (quarters-small (getD (e .before .args .regs .now) 4 0 / 16 % 8)) };
+      sane = record { quarters = rw (c .before .quarters-of .ensures) (quarters-small (getD (e .before .before .args .regs .now) 4 0 / 16 % 8)) };
     }
 
 pub of-spec : {M : Type 1} → statement M
