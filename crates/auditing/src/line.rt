@@ -38,8 +38,11 @@ fn entered(
     out: &mut [u8],
     at: usize,
 ) -> usize
-    requires { ⌜ (length (now book) ≡ 13) × (at + 256 ≤ length (now out)) × (length (now registers) ≡ 54) × (kind ≡ Kind.End → ramAllowed (length (now ram)) ≡ true) ⌝ }
-    ensures { λ r. ⌜ Entered (now (book .entry)) malformed row number (eventBy (now (book .entry)) (now (image .entry)) (now (ram .entry)) (now (registers .entry)) facts kind) (now (out .entry)) at (now (book .exit)) (now (out .exit)) r ⌝ }
+    requires { ⌜ (length (now book) ≡ 13) × (at + 256 ≤ length (now out)) × (length (now registers) ≡ 54)
+        × (kind ≡ Kind.End → ramAllowed (length (now ram)) ≡ true) ⌝ }
+    ensures { λ r. ⌜ Entered (now (book .entry)) malformed row number
+        (eventBy (now (book .entry)) (now (image .entry)) (now (ram .entry)) (now (registers .entry)) facts kind) (now (out .entry)) at (now (book .exit))
+        (now (out .exit)) r ⌝ }
 {
     let line = one_more(book[LINES]);
     let seen = event_of(kind, book, image, ram, facts);
@@ -61,7 +64,9 @@ pub fn line_audited(
     at: usize,
 ) -> usize
     requires { ⌜ (isRecord (now state) ≡ true) × (length (now book) ≡ 13) × (at + 256 ≤ length (now out)) ⌝ }
-    ensures { λ r. ⌜ Audits (auditOf (now (rom .entry)) (world (decoded (now (state .entry))) (now (ram .entry)) (now (store .entry)) (now (image .entry))) (now (book .entry)) (now (line .entry))) (world (decoded (now (state .exit))) (now (ram .exit)) (now (store .exit)) (now (image .exit))) (now (out .entry)) at (now (book .exit)) (now (out .exit)) r × (isRecord (now (state .exit)) ≡ true) ⌝ }
+    ensures { λ r. ⌜ Audits (auditOf (now (rom .entry)) (world (decoded (now (state .entry))) (now (ram .entry)) (now (store .entry)) (now (image .entry)))
+        (now (book .entry)) (now (line .entry))) (world (decoded (now (state .exit))) (now (ram .exit)) (now (store .exit)) (now (image .exit)))
+        (now (out .entry)) at (now (book .exit)) (now (out .exit)) r × (isRecord (now (state .exit)) ≡ true) ⌝ }
 {
     let frame = frame_of(line);
     let asks = asks_of(state, frame);

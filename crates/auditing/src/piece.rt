@@ -59,7 +59,10 @@ pub fn piece_audited(
     out: &mut [u8],
 ) -> usize
     requires { ⌜ (isRecord (now state) ≡ true) × (length (now book) ≡ 13) × (length (now line) ≡ 261) × (512 ≤ length (now out)) ⌝ }
-    ensures { λ r. ⌜ (standing (world (decoded (now (state .exit))) (now (ram .exit)) (now (store .exit)) (now (image .exit))) (now (book .exit)) (now (line .exit)) (now (out .exit)) r ≡ pieceAudited (now (rom .entry)) (world (decoded (now (state .entry))) (now (ram .entry)) (now (store .entry)) (now (image .entry))) (now (book .entry)) (now (line .entry)) (now (out .entry)) (now (piece .entry))) × (isRecord (now (state .exit)) ≡ true) ⌝ }
+    ensures { λ r. ⌜ (standing (world (decoded (now (state .exit))) (now (ram .exit)) (now (store .exit)) (now (image .exit))) (now (book .exit))
+        (now (line .exit)) (now (out .exit)) r
+        ≡ pieceAudited (now (rom .entry)) (world (decoded (now (state .entry))) (now (ram .entry)) (now (store .entry)) (now (image .entry)))
+        (now (book .entry)) (now (line .entry)) (now (out .entry)) (now (piece .entry))) × (isRecord (now (state .exit)) ≡ true) ⌝ }
 {
     let end = line_end(piece, 0);
     let held = held_in(book);
@@ -86,7 +89,9 @@ fn last_audited(
     out: &mut [u8],
 ) -> usize
     requires { ⌜ (isRecord (now state) ≡ true) × (length (now book) ≡ 13) × (length (now line) ≡ 261) × (512 ≤ length (now out)) ⌝ }
-    ensures { λ r. ⌜ Audits (lastAudited (now (rom .entry)) (world (decoded (now (state .entry))) (now (ram .entry)) (now (store .entry)) (now (image .entry))) (now (book .entry)) (now (line .entry))) (world (decoded (now (state .exit))) (now (ram .exit)) (now (store .exit)) (now (image .exit))) (now (out .entry)) 0 (now (book .exit)) (now (out .exit)) r × (isRecord (now (state .exit)) ≡ true) ⌝ }
+    ensures { λ r. ⌜ Audits (lastAudited (now (rom .entry)) (world (decoded (now (state .entry))) (now (ram .entry)) (now (store .entry)) (now (image .entry)))
+        (now (book .entry)) (now (line .entry))) (world (decoded (now (state .exit))) (now (ram .exit)) (now (store .exit)) (now (image .exit)))
+        (now (out .entry)) 0 (now (book .exit)) (now (out .exit)) r × (isRecord (now (state .exit)) ≡ true) ⌝ }
 {
     let held = held_in(book);
     if held == 0 {
@@ -119,7 +124,10 @@ pub fn end_audited(
     out: &mut [u8],
 ) -> usize
     requires { ⌜ (isRecord (now state) ≡ true) × (length (now book) ≡ 13) × (length (now line) ≡ 261) × (512 ≤ length (now out)) ⌝ }
-    ensures { λ r. ⌜ (standing (world (decoded (now (state .exit))) (now (ram .exit)) (now (store .exit)) (now (image .exit))) (now (book .exit)) (now (line .entry)) (now (out .exit)) 0 ≡ endAudited (now (rom .entry)) (world (decoded (now (state .entry))) (now (ram .entry)) (now (store .entry)) (now (image .entry))) (now (book .entry)) (now (line .entry)) (now (out .entry))) × (r ≡ noted (now (book .exit)) written) × (isRecord (now (state .exit)) ≡ true) ⌝ }
+    ensures { λ r. ⌜ (standing (world (decoded (now (state .exit))) (now (ram .exit)) (now (store .exit)) (now (image .exit))) (now (book .exit))
+        (now (line .entry)) (now (out .exit)) 0
+        ≡ endAudited (now (rom .entry)) (world (decoded (now (state .entry))) (now (ram .entry)) (now (store .entry)) (now (image .entry))) (now (book .entry))
+        (now (line .entry)) (now (out .entry))) × (r ≡ noted (now (book .exit)) written) × (isRecord (now (state .exit)) ≡ true) ⌝ }
 {
     let at = last_audited(book, line, state, rom, ram, store, image, out);
     let end = held_put(book, state, out, at);

@@ -70,7 +70,8 @@ fn no_state(state: &[u8], rest: Verdict) -> Verdict
 // A read: lent ROM and RAM.
 pub fn read(state: &[u8], rom: &[u8], ram: &[u8], address: u16) -> ReadAnswer
     requires { ⌜ isRecord (now state) ≡ true ⌝ }
-    ensures { λ r. ⌜ effect (readNumber r) (readValue r) (now (state .entry)) (now (ram .entry)) [] ≡ inBytes (readMeans (decoded (now (state .entry))) (now (rom .entry)) (now (ram .entry)) address) ⌝ }
+    ensures { λ r. ⌜ effect (readNumber r) (readValue r) (now (state .entry)) (now (ram .entry)) []
+        ≡ inBytes (readMeans (decoded (now (state .entry))) (now (rom .entry)) (now (ram .entry)) address) ⌝ }
 {
     let verdict = no_state(state, lent_to_read(rom, ram, address));
     if let Verdict::Refused(why) = verdict {
@@ -107,7 +108,8 @@ fn control_write(state: &mut [u8], address: u16, value: u8)
 // A write of register 0. A start takes the registers and lights the image into the store.
 fn first_write(state: &mut [u8], store: &mut [u8], image: &[u8], value: u8)
     requires { ⌜ (isRecord (now state) ≡ true) × (length (now store) ≡ 16384) × (length (now image) ≡ 16384) ⌝ }
-    ensures { λ _. ⌜ (now (state .exit) ≡ encoded (captureWritten (decoded (now (state .entry))) value)) × (now (store .exit) ≡ storeWritten (decoded (now (state .entry))) (now (store .entry)) (now (image .entry)) 0 value) ⌝ }
+    ensures { λ _. ⌜ (now (state .exit) ≡ encoded (captureWritten (decoded (now (state .entry))) value))
+        × (now (store .exit) ≡ storeWritten (decoded (now (state .entry))) (now (store .entry)) (now (image .entry)) 0 value) ⌝ }
 {
     if is_start(state[4] == 1, value) {
         let next = capture_write(decode(state), store, image, value);
@@ -120,7 +122,8 @@ fn first_write(state: &mut [u8], store: &mut [u8], image: &[u8], value: u8)
 // A write of a register: 1 to 53 are always writable, 54 to 127 ignore writes.
 fn register_write(state: &mut [u8], store: &mut [u8], image: &[u8], number: usize, value: u8)
     requires { ⌜ (isRecord (now state) ≡ true) × (length (now store) ≡ 16384) × (length (now image) ≡ 16384) ⌝ }
-    ensures { λ _. ⌜ (now (state .exit) ≡ encoded (registerWritten (decoded (now (state .entry))) number value)) × (now (store .exit) ≡ storeWritten (decoded (now (state .entry))) (now (store .entry)) (now (image .entry)) number value) ⌝ }
+    ensures { λ _. ⌜ (now (state .exit) ≡ encoded (registerWritten (decoded (now (state .entry))) number value))
+        × (now (store .exit) ≡ storeWritten (decoded (now (state .entry))) (now (store .entry)) (now (image .entry)) number value) ⌝ }
 {
     if number == 0 {
         first_write(state, store, image, value);
@@ -141,7 +144,8 @@ fn byte_write(
     value: u8,
 )
     requires { ⌜ (isRecord (now state) ≡ true) × (ramAllowed (length (now ram)) ≡ true) × (length (now store) ≡ 16384) × (length (now image) ≡ 16384) ⌝ }
-    ensures { λ _. ⌜ effect 0 0 (now (state .exit)) (now (ram .exit)) (now (store .exit)) ≡ inBytes (wrote (byteWritten (decoded (now (state .entry))) (now (ram .entry)) (now (store .entry)) (now (image .entry)) address value)) ⌝ }
+    ensures { λ _. ⌜ effect 0 0 (now (state .exit)) (now (ram .exit)) (now (store .exit))
+        ≡ inBytes (wrote (byteWritten (decoded (now (state .entry))) (now (ram .entry)) (now (store .entry)) (now (image .entry)) address value)) ⌝ }
 {
     if address < 0x8000 {
         control_write(state, address, value);
@@ -165,7 +169,8 @@ pub fn write(
     value: u8,
 ) -> WriteAnswer
     requires { ⌜ isRecord (now state) ≡ true ⌝ }
-    ensures { λ r. ⌜ effect (writeNumber r) 0 (now (state .exit)) (now (ram .exit)) (now (store .exit)) ≡ inBytes (writeMeans (decoded (now (state .entry))) (now (ram .entry)) (now (store .entry)) (now (image .entry)) address value) ⌝ }
+    ensures { λ r. ⌜ effect (writeNumber r) 0 (now (state .exit)) (now (ram .exit)) (now (store .exit))
+        ≡ inBytes (writeMeans (decoded (now (state .entry))) (now (ram .entry)) (now (store .entry)) (now (image .entry)) address value) ⌝ }
 {
     let verdict = no_state(state, lent_to_write(ram, store, image, address));
     if let Verdict::Refused(why) = verdict {
@@ -193,8 +198,10 @@ fn leave(state: &mut [u8], passed: Passed)
 
 // n cycles of a running capture: how many of them ran.
 fn run(state: &mut [u8], ram: &mut [u8], store: &[u8], n: u32) -> u32
-    requires { ⌜ (isRecord (now state) ≡ true) × (running (decoded (now state)) ≡ true) × (decoded (now state) .elapsed .0 < totalOf (decoded (now state) .taken)) × (8192 ≤ length (now ram)) × (length (now store) ≡ 16384) ⌝ }
-    ensures { λ r. ⌜ effect 0 r (now (state .exit)) (now (ram .exit)) (now (store .entry)) ≡ inBytes (ticked (now (store .entry)) (ticks (byteAt (now (store .entry))) n (from (decoded (now (state .entry))) (now (ram .entry))))) ⌝ }
+    requires { ⌜ (isRecord (now state) ≡ true) × (running (decoded (now state)) ≡ true)
+        × (decoded (now state) .elapsed .0 < totalOf (decoded (now state) .taken)) × (8192 ≤ length (now ram)) × (length (now store) ≡ 16384) ⌝ }
+    ensures { λ r. ⌜ effect 0 r (now (state .exit)) (now (ram .exit)) (now (store .entry))
+        ≡ inBytes (ticked (now (store .entry)) (ticks (byteAt (now (store .entry))) n (from (decoded (now (state .entry))) (now (ram .entry))))) ⌝ }
 {
     let elapsed = Cycles(four_at(state, 5));
     let passed = pass(&state[67..], elapsed, ram, store, n);
@@ -205,7 +212,8 @@ fn run(state: &mut [u8], ram: &mut [u8], store: &[u8], n: u32) -> u32
 // A tick of n cycles: lent RAM and frame store. It answers how many of them fell while a capture was running.
 pub fn tick(state: &mut [u8], ram: &mut [u8], store: &[u8], n: u32) -> TickAnswer
     requires { ⌜ isRecord (now state) ≡ true ⌝ }
-    ensures { λ r. ⌜ effect (tickNumber r) (tickValue r) (now (state .exit)) (now (ram .exit)) (now (store .entry)) ≡ inBytes (tickMeans (decoded (now (state .entry))) (now (ram .entry)) (now (store .entry)) n) ⌝ }
+    ensures { λ r. ⌜ effect (tickNumber r) (tickValue r) (now (state .exit)) (now (ram .exit)) (now (store .entry))
+        ≡ inBytes (tickMeans (decoded (now (state .entry))) (now (ram .entry)) (now (store .entry)) n) ⌝ }
 {
     let verdict = no_state(state, lent_to_tick(ram, store));
     if let Verdict::Refused(why) = verdict {

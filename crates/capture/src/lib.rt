@@ -84,7 +84,9 @@ pub struct Passed {
 // n cycles of a running capture, by the registers it took and its elapsed cycles: their pixels are put.
 pub fn pass(taken: &[u8], elapsed: Cycles, ram: &mut [u8], store: &[u8], n: u32) -> Passed
     requires { ⌜ (elapsed .0 < totalOf (now taken)) × (8192 ≤ length (now ram)) × (length (now store) ≡ 16384) × (length (now taken) ≡ 54) ⌝ }
-    ensures { λ r. ⌜ ((c : Controller) → running c ≡ true → c .elapsed .0 ≡ elapsed .0 → c .taken ≡ now (taken .entry) → outcome 0 (r .ran) (after (r .over) (r .elapsed .0) c) (now (ram .exit)) (now (store .entry)) ≡ ticked (now (store .entry)) (ticks (byteAt (now (store .entry))) n (from c (now (ram .entry))))) ⌝ }
+    ensures { λ r. ⌜ ((c : Controller) → running c ≡ true → c .elapsed .0 ≡ elapsed .0 → c .taken ≡ now (taken .entry)
+        → outcome 0 (r .ran) (after (r .over) (r .elapsed .0) c) (now (ram .exit)) (now (store .entry))
+        ≡ ticked (now (store .entry)) (ticks (byteAt (now (store .entry))) n (from c (now (ram .entry))))) ⌝ }
 {
     let all = total(taken);
     let left = all.0 - elapsed.0;
@@ -108,7 +110,8 @@ pub fn pass(taken: &[u8], elapsed: Cycles, ram: &mut [u8], store: &[u8], n: u32)
 // n cycles of a running capture.
 fn run(state: Controller, ram: &mut [u8], store: &[u8], n: u32) -> TickDone
     requires { ⌜ (running state ≡ true) × (state .elapsed .0 < totalOf (state .taken)) × (8192 ≤ length (now ram)) × (length (now store) ≡ 16384) ⌝ }
-    ensures { λ r. ⌜ tickOutcome r (now (ram .exit)) (now (store .entry)) ≡ ticked (now (store .entry)) (ticks (byteAt (now (store .entry))) n (from state (now (ram .entry)))) ⌝ }
+    ensures { λ r. ⌜ tickOutcome r (now (ram .exit)) (now (store .entry))
+        ≡ ticked (now (store .entry)) (ticks (byteAt (now (store .entry))) n (from state (now (ram .entry)))) ⌝ }
 {
     let taken = state.taken;
     let passed = pass(&taken, state.elapsed, ram, store, n);

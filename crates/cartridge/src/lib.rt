@@ -207,7 +207,8 @@ fn register_write(
     value: u8,
 ) -> Controller
     requires { ⌜ (length (now store) ≡ 16384) × (length (now image) ≡ 16384) ⌝ }
-    ensures { λ r. ⌜ (r ≡ registerWritten state number value) × (now (store .exit) ≡ storeWritten state (now (store .entry)) (now (image .entry)) number value) ⌝ }
+    ensures { λ r. ⌜ (r ≡ registerWritten state number value)
+        × (now (store .exit) ≡ storeWritten state (now (store .entry)) (now (image .entry)) number value) ⌝ }
 {
     if number == 0 {
         return capture_write(state, store, image, value);
@@ -245,7 +246,8 @@ fn byte_write(
     value: u8,
 ) -> Controller
     requires { ⌜ (ramAllowed (length (now ram)) ≡ true) × (length (now store) ≡ 16384) × (length (now image) ≡ 16384) ⌝ }
-    ensures { λ r. ⌜ left r (now (ram .exit)) (now (store .exit)) ≡ byteWritten state (now (ram .entry)) (now (store .entry)) (now (image .entry)) address value ⌝ }
+    ensures { λ r. ⌜ left r (now (ram .exit)) (now (store .exit))
+        ≡ byteWritten state (now (ram .entry)) (now (store .entry)) (now (image .entry)) address value ⌝ }
 {
     if address < 0x8000 {
         return control_write(state, address, value);
@@ -282,7 +284,8 @@ pub fn write(
     address: u16,
     value: u8,
 ) -> WriteDone
-    ensures { λ r. ⌜ writeOutcome r (now (ram .exit)) (now (store .exit)) ≡ writeMeans state (now (ram .entry)) (now (store .entry)) (now (image .entry)) address value ⌝ }
+    ensures { λ r. ⌜ writeOutcome r (now (ram .exit)) (now (store .exit))
+        ≡ writeMeans state (now (ram .entry)) (now (store .entry)) (now (image .entry)) address value ⌝ }
 {
     let verdict = state.no_state(lent_to_write(ram, store, image, address));
     if let Verdict::Refused(why) = verdict {

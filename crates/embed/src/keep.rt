@@ -23,7 +23,8 @@ pub extern "C" fn gulxinett_restore(
     ram: &mut [u8],
     store: &mut [u8],
 ) -> u64
-    ensures { λ r. ⌜ called r (now (state .exit)) (now (ram .exit)) (now (store .exit)) ≡ restoreBytes (now (file .entry)) (now (state .entry)) (now (ram .entry)) (now (store .entry)) ⌝ }
+    ensures { λ r. ⌜ called r (now (state .exit)) (now (ram .exit)) (now (store .exit))
+        ≡ restoreBytes (now (file .entry)) (now (state .entry)) (now (ram .entry)) (now (store .entry)) ⌝ }
 {
     done_answer(restore(file, state, ram, store))
 }

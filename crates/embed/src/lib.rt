@@ -56,7 +56,8 @@ pub extern "C" fn gulxinett_write(
     address: u16,
     value: u8,
 ) -> u64
-    ensures { λ r. ⌜ called r (now (state .exit)) (now (ram .exit)) (now (store .exit)) ≡ writeBytes (now (state .entry)) (now (ram .entry)) (now (store .entry)) (now (image .entry)) address value ⌝ }
+    ensures { λ r. ⌜ called r (now (state .exit)) (now (ram .exit)) (now (store .exit))
+        ≡ writeBytes (now (state .entry)) (now (ram .entry)) (now (store .entry)) (now (image .entry)) address value ⌝ }
 {
     if !is_record(state) {
         return refused(Refusal::State);
@@ -67,7 +68,8 @@ pub extern "C" fn gulxinett_write(
 // Lets cycles pass; it answers how many of them fell while a capture was running.
 #[no_mangle]
 pub extern "C" fn gulxinett_tick(state: &mut [u8], ram: &mut [u8], store: &[u8], cycles: u32) -> u64
-    ensures { λ r. ⌜ called r (now (state .exit)) (now (ram .exit)) (now (store .entry)) ≡ tickBytes (now (state .entry)) (now (ram .entry)) (now (store .entry)) cycles ⌝ }
+    ensures { λ r. ⌜ called r (now (state .exit)) (now (ram .exit)) (now (store .entry))
+        ≡ tickBytes (now (state .entry)) (now (ram .entry)) (now (store .entry)) cycles ⌝ }
 {
     if !is_record(state) {
         return refused(Refusal::State);

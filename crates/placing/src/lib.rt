@@ -81,7 +81,8 @@ fn weigh(grey: u8, bit: u8, weight: u8) -> u8
 fn weigh_row(pixels: &[u8], weights: &[u8; 128], at: usize, low: &mut [u8], high: &mut [u8])
     requires { ⌜ (at + 128 ≤ length (now pixels)) × (at < 14336) ⌝ }
     requires { ⌜ (now weights ≡ listed weightOf 128) × (length (now low) ≡ 128) × (length (now high) ≡ 128) ⌝ }
-    ensures { λ _. ⌜ (now (low .exit) ≡ listed (weighedAt 1 (now (pixels .entry)) at) 128) × (now (high .exit) ≡ listed (weighedAt 2 (now (pixels .entry)) at) 128) ⌝ }
+    ensures { λ _. ⌜ (now (low .exit) ≡ listed (weighedAt 1 (now (pixels .entry)) at) 128)
+        × (now (high .exit) ≡ listed (weighedAt 2 (now (pixels .entry)) at) 128) ⌝ }
 {
     for x in 0..128 {
         low[x] = weigh(pixels[at + x], 1, weights[x]);
@@ -120,7 +121,8 @@ fn sums(low: &[u8; 128], high: &[u8; 128]) -> Sixteen
 fn pack(pixels: &[u8], weights: &[u8; 128], at: usize) -> Sixteen
     requires { ⌜ (length (now pixels) ≡ 14336) × (at + 128 ≤ 14336) ⌝ }
     requires { ⌜ (now weights ≡ listed weightOf 128) × (onlyGreys (now pixels) ≡ true) ⌝ }
-    ensures { λ r. ⌜ (r .low ≡ listed (λ t. lowsAt (now (pixels .entry)) (at + 8 * t)) 16) × (r .high ≡ listed (λ t. highsAt (now (pixels .entry)) (at + 8 * t)) 16) ⌝ }
+    ensures { λ r. ⌜ (r .low ≡ listed (λ t. lowsAt (now (pixels .entry)) (at + 8 * t)) 16)
+        × (r .high ≡ listed (λ t. highsAt (now (pixels .entry)) (at + 8 * t)) 16) ⌝ }
 {
     let mut low = [0u8; 128];
     let mut high = [0u8; 128];

@@ -33,7 +33,8 @@ pub extern "C" fn gulxinett_step(
     out: &mut [u8],
 ) -> u64
     ensures { λ r. ⌜ stepped r (now (state .exit)) (now (ram .exit)) (now (store .exit)) (now (image .exit)) (now (out .exit))
-        ≡ stepBytes (now (state .entry)) (now (rom .entry)) (now (ram .entry)) (now (store .entry)) (now (image .entry)) (now (line .entry)) (now (out .entry)) ⌝ }
+        ≡ stepBytes (now (state .entry)) (now (rom .entry)) (now (ram .entry)) (now (store .entry)) (now (image .entry))
+        (now (line .entry)) (now (out .entry)) ⌝ }
 {
     let verdict = judge_step(state, out);
     if let Verdict::Refused(why) = verdict {

@@ -222,7 +222,8 @@ pub fn next_row(store: &[u8], set: Setting, row: usize, carried: &mut [u8], out:
     requires { ⌜ Inside (length (now store)) 0 row 8 119 ⌝ }
     requires { ⌜ Sane set × (length (now out) ≡ 128) ⌝ }
     requires { ⌜ Carried (byteAt (now store)) set row (now carried) ⌝ }
-    ensures { λ _. ⌜ (now (out .exit) ≡ valueRow (byteAt (now (store .entry))) set row) × Carried (byteAt (now (store .entry))) set (row + 1) (now (carried .exit)) ⌝ }
+    ensures { λ _. ⌜ (now (out .exit) ≡ valueRow (byteAt (now (store .entry))) set row)
+        × Carried (byteAt (now (store .entry))) set (row + 1) (now (carried .exit)) ⌝ }
 {
     if asks_below(set) {
         row_4(store, set.mode, set.quarters, row + 1, out);

@@ -51,7 +51,8 @@ fn put_line(text: &mut [u8], at: usize, line: &[u8])
 
 // Puts the first n accepted lines, each with its LF.
 pub(crate) fn put_text(script: &[u8], n: usize, text: &mut [u8])
-    requires { ⌜ (n ≤ length (acceptedAt (now script) 0)) × (length (now script) ≤ 32768) × (length (textOf (take n (acceptedAt (now script) 0))) ≤ length (now text)) ⌝ }
+    requires { ⌜ (n ≤ length (acceptedAt (now script) 0)) × (length (now script) ≤ 32768)
+        × (length (textOf (take n (acceptedAt (now script) 0))) ≤ length (now text)) ⌝ }
     ensures { λ _. ⌜ now (text .exit) ≡ placed (now (text .entry)) 0 (textOf (take n (acceptedAt (now (script .entry)) 0))) ⌝ }
 {
     let mut left = n;

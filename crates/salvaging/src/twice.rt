@@ -105,7 +105,8 @@ fn is_doubled(script: &[u8], n: usize) -> bool
 // How many of the accepted lines are kept: one half of them, again until no repetition is left.
 pub(crate) fn kept(script: &[u8]) -> usize
     requires { ⌜ length (now script) ≤ 32768 ⌝ }
-    ensures { λ r. ⌜ (r ≤ length (acceptedAt (now (script .entry)) 0)) × (take r (acceptedAt (now (script .entry)) 0) ≡ salvaged (linesOf (now (script .entry)))) ⌝ }
+    ensures { λ r. ⌜ (r ≤ length (acceptedAt (now (script .entry)) 0))
+        × (take r (acceptedAt (now (script .entry)) 0) ≡ salvaged (linesOf (now (script .entry)))) ⌝ }
 {
     let mut n = count_accepted(script);
     while is_doubled(script, n) {

@@ -104,7 +104,8 @@ fn judge_restore(file: &[u8], state: &[u8], ram: &[u8], store: &[u8]) -> Verdict
 
 // A save's state, RAM and frame store, in what is lent.
 pub fn restore(file: &[u8], state: &mut [u8], ram: &mut [u8], store: &mut [u8]) -> WriteAnswer
-    ensures { λ r. ⌜ restored (writeNumber r) (now (state .exit)) (now (ram .exit)) (now (store .exit)) ≡ restoreMeans (now (file .entry)) (now (state .entry)) (now (ram .entry)) (now (store .entry)) ⌝ }
+    ensures { λ r. ⌜ restored (writeNumber r) (now (state .exit)) (now (ram .exit)) (now (store .exit))
+        ≡ restoreMeans (now (file .entry)) (now (state .entry)) (now (ram .entry)) (now (store .entry)) ⌝ }
 {
     let verdict = judge_restore(file, state, ram, store);
     if let Verdict::Refused(why) = verdict {

@@ -48,7 +48,8 @@ fn put_four(n: u32, out: &mut [u8])
 fn put_body(state: &[u8], ram: &[u8], store: &[u8], out: &mut [u8])
     requires { ⌜ (length (now state) ≡ 121) × (length (now store) ≡ 16384) ⌝ }
     requires { ⌜ (length (now ram) ≤ 131072) × (16512 + length (now ram) ≤ length (now out)) ⌝ }
-    ensures { λ _. ⌜ now (out .exit) ≡ bodyOf (now (state .entry)) (now (ram .entry)) (now (store .entry)) ++ drop (16512 + length (now (ram .entry))) (now (out .entry)) ⌝ }
+    ensures { λ _. ⌜ now (out .exit)
+        ≡ bodyOf (now (state .entry)) (now (ram .entry)) (now (store .entry)) ++ drop (16512 + length (now (ram .entry))) (now (out .entry)) ⌝ }
 {
     let banks = ram.len() / Controller::RAM_BANK;
     put_magic(banks as u8, out);
@@ -61,7 +62,8 @@ fn put_body(state: &[u8], ram: &[u8], store: &[u8], out: &mut [u8])
 fn put_save(state: &[u8], ram: &[u8], store: &[u8], out: &mut [u8])
     requires { ⌜ (length (now state) ≡ 121) × (length (now store) ≡ 16384) ⌝ }
     requires { ⌜ (length (now ram) ≤ 131072) × (16516 + length (now ram) ≤ length (now out)) ⌝ }
-    ensures { λ _. ⌜ now (out .exit) ≡ saveOf (now (state .entry)) (now (ram .entry)) (now (store .entry)) ++ drop (16516 + length (now (ram .entry))) (now (out .entry)) ⌝ }
+    ensures { λ _. ⌜ now (out .exit)
+        ≡ saveOf (now (state .entry)) (now (ram .entry)) (now (store .entry)) ++ drop (16516 + length (now (ram .entry))) (now (out .entry)) ⌝ }
 {
     let end = REST - 4 + ram.len();
     put_body(state, ram, store, out);
@@ -90,7 +92,8 @@ fn judge_save(state: &[u8], ram: &[u8], store: &[u8], out: &[u8]) -> Verdict
 
 // State, RAM and frame store as one file, in a lent buffer, whose later bytes stay.
 pub fn save(state: &[u8], ram: &[u8], store: &[u8], out: &mut [u8]) -> Output
-    ensures { λ r. ⌜ exported (outputNumber r) (outputValue r) (now (out .exit)) ≡ saveMeans (now (state .entry)) (now (ram .entry)) (now (store .entry)) (now (out .entry)) ⌝ }
+    ensures { λ r. ⌜ exported (outputNumber r) (outputValue r) (now (out .exit))
+        ≡ saveMeans (now (state .entry)) (now (ram .entry)) (now (store .entry)) (now (out .entry)) ⌝ }
 {
     let verdict = judge_save(state, ram, store, out);
     if let Verdict::Refused(why) = verdict {

@@ -60,7 +60,8 @@ fn at_most(n: usize, most: usize) -> usize
 // Holds bytes of a line after those that are held, as far as 261, and returns how many are held then.
 pub fn hold(line: &mut [u8], held: usize, bytes: &[u8]) -> usize
     requires { ⌜ (length (now line) ≡ 261) × (held ≤ 261) ⌝ }
-    ensures { λ r. ⌜ (now (line .exit) ≡ placed (now (line .entry)) held (take (261 - held) (now (bytes .entry)))) × (r ≡ held + length (take (261 - held) (now (bytes .entry)))) × (r ≤ 261) ⌝ }
+    ensures { λ r. ⌜ (now (line .exit) ≡ placed (now (line .entry)) held (take (261 - held) (now (bytes .entry))))
+        × (r ≡ held + length (take (261 - held) (now (bytes .entry)))) × (r ≤ 261) ⌝ }
 {
     let n = at_most(bytes.len(), HELD - held); // the others are skipped
     let mut i = 0;
@@ -121,7 +122,10 @@ fn end_line(
     at: usize,
 ) -> usize
     requires { ⌜ (isRecord (now state) ≡ true) × (length (now line) ≡ 261) × (held ≤ 261) × (at + 11 ≤ length (now out)) ⌝ }
-    ensures { λ r. ⌜ Printed (stepOf (now (rom .entry)) (world (decoded (now (state .entry))) (now (ram .entry)) (now (store .entry)) (now (image .entry))) (take 261 (take held (now (line .entry)) ++ now (rest .entry)))) (world (decoded (now (state .exit))) (now (ram .exit)) (now (store .exit)) (now (image .exit))) (now (out .entry)) at (now (out .exit)) r × (isRecord (now (state .exit)) ≡ true) ⌝ }
+    ensures { λ r. ⌜ Printed (stepOf (now (rom .entry)) (world (decoded (now (state .entry))) (now (ram .entry)) (now (store .entry)) (now (image .entry)))
+        (take 261 (take held (now (line .entry)) ++ now (rest .entry))))
+        (world (decoded (now (state .exit))) (now (ram .exit)) (now (store .exit)) (now (image .exit))) (now (out .entry)) at (now (out .exit)) r
+        × (isRecord (now (state .exit)) ≡ true) ⌝ }
 {
     if held == 0 {
         return line_done(state, rom, ram, store, image, rest, out, at);
@@ -152,7 +156,9 @@ pub fn feed(
     piece: &[u8],
     out: &mut [u8],
 ) -> Fed
-    ensures { λ r. ⌜ (fedAs r (now (ram .exit)) (now (store .exit)) (now (image .exit)) (now (out .exit)) ≡ feedMeans (now (rom .entry)) (world state (now (ram .entry)) (now (store .entry)) (now (image .entry))) reader (now (piece .entry)) (now (out .entry))) × (r .used ≤ length (now (piece .entry))) × (r .written ≤ length (now (out .entry))) ⌝ }
+    ensures { λ r. ⌜ (fedAs r (now (ram .exit)) (now (store .exit)) (now (image .exit)) (now (out .exit))
+        ≡ feedMeans (now (rom .entry)) (world state (now (ram .entry)) (now (store .entry)) (now (image .entry))) reader (now (piece .entry))
+        (now (out .entry))) × (r .used ≤ length (now (piece .entry))) × (r .written ≤ length (now (out .entry))) ⌝ }
 {
     let mut line = reader.line;
     let mut held = at_most(reader.held, HELD);
@@ -197,7 +203,8 @@ pub fn finish(
     store: &mut [u8],
     image: &mut [u8],
 ) -> Stepped
-    ensures { λ r. ⌜ (said r (now (ram .exit)) (now (store .exit)) (now (image .exit)) ≡ saying (finishMeans (now (rom .entry)) (world state (now (ram .entry)) (now (store .entry)) (now (image .entry))) reader)) × (r .length ≤ 11) ⌝ }
+    ensures { λ r. ⌜ (said r (now (ram .exit)) (now (store .exit)) (now (image .exit))
+        ≡ saying (finishMeans (now (rom .entry)) (world state (now (ram .entry)) (now (store .entry)) (now (image .entry))) reader)) × (r .length ≤ 11) ⌝ }
 {
     let line = reader.line;
     let held = at_most(reader.held, HELD);

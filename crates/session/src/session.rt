@@ -101,7 +101,8 @@ fn take_row(image: &mut [u8], line: &[u8], y: usize)
 // A read, and the byte.
 fn do_read(state: &[u8], rom: &[u8], ram: &[u8], address: u16) -> Answer
     requires { ⌜ isRecord (now state) ≡ true ⌝ }
-    ensures { λ r. ⌜ Obeys 2 (readMeans (decoded (now (state .entry))) (now (rom .entry)) (now (ram .entry)) address) (now (state .entry)) r (now (ram .entry)) [] ⌝ }
+    ensures { λ r. ⌜ Obeys 2 (readMeans (decoded (now (state .entry))) (now (rom .entry)) (now (ram .entry)) address) (now (state .entry)) r
+        (now (ram .entry)) [] ⌝ }
 {
     read_answer(calls::read(state, rom, ram, address))
 }
@@ -116,7 +117,8 @@ fn do_write(
     value: u8,
 ) -> Answer
     requires { ⌜ isRecord (now state) ≡ true ⌝ }
-    ensures { λ r. ⌜ Obeys 0 (writeMeans (decoded (now (state .entry))) (now (ram .entry)) (now (store .entry)) (now (image .entry)) address value) (now (state .exit)) r (now (ram .exit)) (now (store .exit)) ⌝ }
+    ensures { λ r. ⌜ Obeys 0 (writeMeans (decoded (now (state .entry))) (now (ram .entry)) (now (store .entry)) (now (image .entry)) address value)
+        (now (state .exit)) r (now (ram .exit)) (now (store .exit)) ⌝ }
 {
     write_answer(calls::write(state, ram, store, image, address, value))
 }
@@ -124,7 +126,8 @@ fn do_write(
 // A tick, and the running cycles.
 fn do_tick(state: &mut [u8], ram: &mut [u8], store: &[u8], n: u32) -> Answer
     requires { ⌜ isRecord (now state) ≡ true ⌝ }
-    ensures { λ r. ⌜ Obeys 8 (tickMeans (decoded (now (state .entry))) (now (ram .entry)) (now (store .entry)) n) (now (state .exit)) r (now (ram .exit)) (now (store .entry)) × (r .value ≡ tickMeans (decoded (now (state .entry))) (now (ram .entry)) (now (store .entry)) n .value) ⌝ }
+    ensures { λ r. ⌜ Obeys 8 (tickMeans (decoded (now (state .entry))) (now (ram .entry)) (now (store .entry)) n) (now (state .exit)) r (now (ram .exit))
+        (now (store .entry)) × (r .value ≡ tickMeans (decoded (now (state .entry))) (now (ram .entry)) (now (store .entry)) n .value) ⌝ }
 {
     tick_answer(calls::tick(state, ram, store, n))
 }
@@ -170,7 +173,9 @@ pub fn carry_out(
     frame: Frame,
 ) -> Answer
     requires { ⌜ (isRecord (now state) ≡ true) × (frame ≡ frameOf (now line)) ⌝ }
-    ensures { λ a. ⌜ Carried (now (rom .entry)) (now (line .entry)) (world (decoded (now (state .entry))) (now (ram .entry)) (now (store .entry)) (now (image .entry))) frame a (world (decoded (now (state .exit))) (now (ram .exit)) (now (store .exit)) (now (image .exit))) × (isRecord (now (state .exit)) ≡ true) ⌝ }
+    ensures { λ a. ⌜ Carried (now (rom .entry)) (now (line .entry))
+        (world (decoded (now (state .entry))) (now (ram .entry)) (now (store .entry)) (now (image .entry))) frame a
+        (world (decoded (now (state .exit))) (now (ram .exit)) (now (store .exit)) (now (image .exit))) × (isRecord (now (state .exit)) ≡ true) ⌝ }
 {
     match frame {
         Frame::Reset => do_reset(state),
@@ -192,7 +197,9 @@ pub(crate) fn obey(
     line: &[u8],
 ) -> Answer
     requires { ⌜ isRecord (now state) ≡ true ⌝ }
-    ensures { λ a. ⌜ (step (world (decoded (now (state .exit))) (now (ram .exit)) (now (store .exit)) (now (image .exit))) (textOf a) ≡ stepOf (now (rom .entry)) (world (decoded (now (state .entry))) (now (ram .entry)) (now (store .entry)) (now (image .entry))) (now (line .entry))) × (isRecord (now (state .exit)) ≡ true) × (a .digits ≤ 8) ⌝ }
+    ensures { λ a. ⌜ (step (world (decoded (now (state .exit))) (now (ram .exit)) (now (store .exit)) (now (image .exit))) (textOf a)
+        ≡ stepOf (now (rom .entry)) (world (decoded (now (state .entry))) (now (ram .entry)) (now (store .entry)) (now (image .entry))) (now (line .entry)))
+        × (isRecord (now (state .exit)) ≡ true) × (a .digits ≤ 8) ⌝ }
 {
     let frame = frame_of(line);
     carry_out(state, rom, ram, store, image, line, frame)
@@ -210,7 +217,9 @@ pub fn line_done(
     at: usize,
 ) -> usize
     requires { ⌜ (isRecord (now state) ≡ true) × (at + 11 ≤ length (now out)) ⌝ }
-    ensures { λ r. ⌜ Printed (stepOf (now (rom .entry)) (world (decoded (now (state .entry))) (now (ram .entry)) (now (store .entry)) (now (image .entry))) (now (line .entry))) (world (decoded (now (state .exit))) (now (ram .exit)) (now (store .exit)) (now (image .exit))) (now (out .entry)) at (now (out .exit)) r × (isRecord (now (state .exit)) ≡ true) ⌝ }
+    ensures { λ r. ⌜ Printed (stepOf (now (rom .entry)) (world (decoded (now (state .entry))) (now (ram .entry)) (now (store .entry)) (now (image .entry)))
+        (now (line .entry))) (world (decoded (now (state .exit))) (now (ram .exit)) (now (store .exit)) (now (image .exit))) (now (out .entry)) at
+        (now (out .exit)) r × (isRecord (now (state .exit)) ≡ true) ⌝ }
 {
     let answer = obey(state, rom, ram, store, image, line);
     put_answer(out, at, answer)
@@ -232,7 +241,9 @@ pub fn step(
     image: &mut [u8],
     line: &[u8],
 ) -> Stepped
-    ensures { λ r. ⌜ (said r (now (ram .exit)) (now (store .exit)) (now (image .exit)) ≡ saying (stepOf (now (rom .entry)) (world state (now (ram .entry)) (now (store .entry)) (now (image .entry))) (now (line .entry)))) × (r .length ≤ 11) ⌝ }
+    ensures { λ r. ⌜ (said r (now (ram .exit)) (now (store .exit)) (now (image .exit))
+        ≡ saying (stepOf (now (rom .entry)) (world state (now (ram .entry)) (now (store .entry)) (now (image .entry))) (now (line .entry))))
+        × (r .length ≤ 11) ⌝ }
 {
     let mut text = [0u8; 11];
     let mut bytes = bytes_of(state);

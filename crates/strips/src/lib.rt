@@ -72,7 +72,8 @@ fn weigh(
     high: &mut [u8],
 )
     requires { ⌜ (at < 385) × (length (now low) ≡ 128) × (length (now high) ≡ 128) ⌝ }
-    ensures { λ _. ⌜ (now (low .exit) ≡ listed (lowBy (now (values .entry)) (now (matrix .entry)) at (now (w .entry))) 128) × (now (high .exit) ≡ listed (highBy (now (values .entry)) (now (matrix .entry)) at (now (w .entry))) 128) ⌝ }
+    ensures { λ _. ⌜ (now (low .exit) ≡ listed (lowBy (now (values .entry)) (now (matrix .entry)) at (now (w .entry))) 128)
+        × (now (high .exit) ≡ listed (highBy (now (values .entry)) (now (matrix .entry)) at (now (w .entry))) 128) ⌝ }
 {
     for x in 0..128 {
         let v = values[x];
@@ -103,7 +104,8 @@ pub fn shade_row(
     high: &mut [u8],
 )
     requires { ⌜ (now matrix ≡ spreadOf (now regs)) × (length (now low) ≡ 16) × (length (now high) ≡ 16) ⌝ }
-    ensures { λ _. ⌜ (now (low .exit) ≡ listed (λ t. lowOf (now (values .entry)) (now (regs .entry)) t row) 16) × (now (high .exit) ≡ listed (λ t. highOf (now (values .entry)) (now (regs .entry)) t row) 16) ⌝ }
+    ensures { λ _. ⌜ (now (low .exit) ≡ listed (λ t. lowOf (now (values .entry)) (now (regs .entry)) t row) 16)
+        × (now (high .exit) ≡ listed (λ t. highOf (now (values .entry)) (now (regs .entry)) t row) 16) ⌝ }
 {
     let w = repeat(WEIGHTS);
     let mut lows = [0u8; 128];

@@ -124,7 +124,8 @@ pub struct TileRow {
 fn tile_row(store: &[u8], set: Setting, regs: &[u8], t: usize, y: usize) -> TileRow
     requires { ⌜ (length (now store) ≡ 16384) × (t < 16) × (y < 112) ⌝ }
     requires { ⌜ Asked set (now regs) × (length (now regs) ≡ 54) ⌝ }
-    ensures { λ r. ⌜ (r .low ≡ lowByte (byteAt (now (store .entry))) (now (regs .entry)) t y) × (r .high ≡ highByte (byteAt (now (store .entry))) (now (regs .entry)) t y) ⌝ }
+    ensures { λ r. ⌜ (r .low ≡ lowByte (byteAt (now (store .entry))) (now (regs .entry)) t y)
+        × (r .high ≡ highByte (byteAt (now (store .entry))) (now (regs .entry)) t y) ⌝ }
 {
     let mut low: u8 = 0;
     let mut high: u8 = 0;
@@ -150,7 +151,8 @@ fn put_line(
     requires { ⌜ (at + 3584 ≤ length (now out)) × (length (now store) ≡ 16384) × (y < 112) × (now matrix ≡ spreadOf (now regs)) ⌝ }
     requires { ⌜ Asked set (now regs) ⌝ }
     requires { ⌜ Carried (byteAt (now store)) set (y + 8) (now carried) ⌝ }
-    ensures { λ _. ⌜ (now (out .exit) ≡ putPairs (byteAt (now (store .entry))) (now (regs .entry)) at (16 * y) 16 (now (out .entry))) × Carried (byteAt (now (store .entry))) set (y + 8 + 1) (now (carried .exit)) ⌝ }
+    ensures { λ _. ⌜ (now (out .exit) ≡ putPairs (byteAt (now (store .entry))) (now (regs .entry)) at (16 * y) 16 (now (out .entry)))
+        × Carried (byteAt (now (store .entry))) set (y + 8 + 1) (now (carried .exit)) ⌝ }
 {
     let mut values = [0u8; 128];
     rows::next_row(store, set, y + 8, carried, &mut values);

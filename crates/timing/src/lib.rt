@@ -156,7 +156,9 @@ fn done_by(first: Clocks, elapsed: Cycles) -> usize
 // Writes what falls between two numbers of elapsed cycles of a capture, from a store of lit values.
 pub fn write_between(ram: &mut [u8], store: &[u8], regs: &[u8], elapsed: Cycles, then: Cycles)
     requires { ⌜ (elapsed .0 ≤ then .0) × (8192 ≤ length (now ram)) × (length (now store) ≡ 16384) × (length (now regs) ≡ 54) ⌝ }
-    ensures { λ _. ⌜ now (ram .exit) ≡ pixels (byteAt (now (store .entry))) (now (regs .entry)) (doneBy (now (regs .entry)) (elapsed .0)) (doneBy (now (regs .entry)) (then .0)) (now (ram .entry)) ⌝ }
+    ensures { λ _. ⌜ now (ram .exit)
+        ≡ pixels (byteAt (now (store .entry))) (now (regs .entry)) (doneBy (now (regs .entry)) (elapsed .0)) (doneBy (now (regs .entry)) (then .0))
+        (now (ram .entry)) ⌝ }
 {
     let first = picture_from(regs);
     let from = done_by(first, elapsed);
