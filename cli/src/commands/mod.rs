@@ -1,6 +1,5 @@
 //! The commands, each in a module of its name.
 
-mod audit;
 mod inspect;
 mod judge;
 mod photo;
@@ -29,9 +28,8 @@ pub struct Command {
 }
 
 /// Every command, in the order in which they are told.
-pub const COMMANDS: [Command; 9] = [
+pub const COMMANDS: [Command; 8] = [
     play::COMMAND,
-    audit::COMMAND,
     judge::COMMAND,
     salvage::COMMAND,
     picture::COMMAND,
