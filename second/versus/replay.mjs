@@ -7,6 +7,7 @@ import { openSync, readFileSync, readSync } from "node:fs";
 const RESET = 0;
 const WRITE = 2;
 const TICK = 3;
+const STEP = 21;
 const LENT = 0xff;
 const END = 0xfe;
 const UNDRAWN = 0xa5;
@@ -18,7 +19,7 @@ const FENCE_BYTES = 64;
 /** The most bytes that each memory is lent, in the order of the steps. */
 const ROOM = {
   state: 256, rom: 130 * 16384, ram: 34 * 8192, store: 32768, image: 32768, file: 10_000_000, picture: 3584, out: 163840, report: 49152,
-  registers: 54, row: 256,
+  registers: 54, row: 256, plate: 3584, line: 131072,
 };
 const NAMES = Object.keys(ROOM);
 /** Every so many calls all of the memory is compared, what was not lent too. */
@@ -65,7 +66,7 @@ class Memories {
     this.here = new Uint8Array(memory.buffer, base, place).fill(FENCE);
     for (const { place, name } of this.parts) this.here.fill(0, place, place + ROOM[name]);
     this.second = this.here.slice();
-    for (const name of ["picture", "registers"]) this.named(name).length = ROOM[name];
+    for (const name of ["picture", "registers", "plate"]) this.named(name).length = ROOM[name];
   }
 
   named = (name) => this.parts[NAMES.indexOf(name)];
@@ -170,6 +171,22 @@ function kinds(steps, memories, exports) {
       return ["save", () => exports.gulxinett_save(...lent("state", "ram", "store", "out"))];
     },
     () => ["restore", () => exports.gulxinett_restore(...lent("file", "state", "ram", "store"))],
+    () => {
+      const [frame, plate, registers] = [NAMES[steps.byte()], memories.named("plate"), memories.named("registers")];
+      memories.put(plate, 0, steps.take(ROOM.plate));
+      memories.put(registers, 0, steps.take(ROOM.registers));
+      makeRoom();
+      const call = () => exports.gulxinett_judge(plate.address, ...lent(frame), registers.address, ...lent("out"));
+      return [`judging beside ${frame}`, call];
+    },
+    () => {
+      const words = memories.named("line");
+      words.length = steps.word();
+      memories.put(words, 0, steps.take(words.length));
+      makeRoom();
+      const call = () => exports.gulxinett_step(...lent("state", "rom", "ram", "store", "image", "line", "out"));
+      return [`step of ${words.length} bytes`, call];
+    },
   ];
 }
 
@@ -207,6 +224,8 @@ function replay(modulePath, answersPath) {
     if (answer >> 32n) refusals++;
     if (step === RESET) started = false;
     if (step === WRITE && !before && held()) started = true;
+    // what a line starts or ends is not counted
+    if (step === STEP) started &&= held();
     if (step === TICK && before && !held()) {
       captures += Number(started);
       started = false;

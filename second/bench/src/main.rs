@@ -1,8 +1,8 @@
 //! The proved archive beside the second program, in the same run; mGBA and the browser module too.
 //!
-//! `bench [--quick] [--save FILE] [--compare FILE] [--mgba PROGRAM] [--browser PROGRAM] [--zlib PROGRAM] PROVED SECOND`:
-//! PROVED and SECOND are the two script programs, and every program is named with its arguments in one
-//! word of the shell. The proved controller is called by its C functions, which take the state as bytes;
+//! `bench [--quick] [--save FILE] [--compare FILE] [--mgba PROGRAM] [--browser PROGRAM] [--zlib PROGRAM]
+//! [--audit PROGRAM] PROVED SECOND`: PROVED and SECOND are the two script programs, --audit names the proved one that
+//! audits, and every program is named with its arguments in one word of the shell. The proved controller is called by its C functions, which take the state as bytes;
 //! the second program's functions are called as they are.
 //!
 //! The modules from the bottom up, each of which uses only those named before it:
@@ -36,7 +36,7 @@ fn main() -> ExitCode {
     let Some(words) = Words::new(std::env::args().skip(1)) else {
         eprintln!(
             "usage: bench [--quick] [--save FILE] [--compare FILE] [--mgba PROGRAM] \
-             [--browser PROGRAM] [--zlib PROGRAM] PROVED SECOND"
+             [--browser PROGRAM] [--zlib PROGRAM] [--audit PROGRAM] PROVED SECOND"
         );
         return ExitCode::from(2);
     };
@@ -57,13 +57,15 @@ struct Words {
     mgba: Option<String>,
     browser: Option<String>,
     zlib: Option<String>,
+    audit: Option<String>,
     programs: [String; 2],
 }
 
 impl Words {
     fn new(mut words: impl Iterator<Item = String>) -> Option<Self> {
         let mut effort = Effort::FULL;
-        let [mut save, mut compare, mut mgba, mut browser, mut zlib] = [const { None }; 5];
+        let [mut save, mut compare, mut mgba, mut browser, mut zlib, mut audit] =
+            [const { None }; 6];
         let mut programs = Vec::new();
         while let Some(word) = words.next() {
             match word.as_str() {
@@ -73,6 +75,7 @@ impl Words {
                 "--mgba" => mgba = Some(words.next()?),
                 "--browser" => browser = Some(words.next()?),
                 "--zlib" => zlib = Some(words.next()?),
+                "--audit" => audit = Some(words.next()?),
                 word if word.starts_with("--") => return None,
                 _ => programs.push(word),
             }
@@ -84,6 +87,7 @@ impl Words {
             mgba,
             browser,
             zlib,
+            audit,
             programs: programs.try_into().ok()?,
         })
     }
@@ -102,7 +106,8 @@ impl Words {
         written::measure(self.effort, &mut bench.table);
         saves::measure(self.effort, &mut bench.table, &mut started(&self.zlib)?)?;
         let [proved, second] = &self.programs;
-        script::compare(proved, second, self.effort, &mut bench.table)?;
+        let audit = self.audit.as_deref();
+        script::compare([proved, second], audit, self.effort, &mut bench.table)?;
         println!(
             "best of {} rounds; of the ratios by rounds the quartiles",
             self.effort.rounds

@@ -1,7 +1,7 @@
-//! A long script through both programs.
+//! A long script through both programs, and audited by both.
 
 use crate::table::Table;
-use crate::timing::Effort;
+use crate::timing::{best, Effort, Times};
 use std::fs::File;
 use std::io::{self, Write};
 use std::path::{Path, PathBuf};
@@ -21,21 +21,43 @@ impl Drop for Temporary {
 /// Lines of the script.
 const LINES: usize = 1_000_000;
 
-/// Times both programs on the same script, after seeing that they print the same.
-pub fn compare(proved: &str, second: &str, effort: Effort, table: &mut Table) -> io::Result<()> {
+/// Times both programs on the same script, and both as they audit it, after seeing that they print the same.
+pub fn compare(
+    [proved, second]: [&str; 2],
+    audit: Option<&str>,
+    effort: Effort,
+    table: &mut Table,
+) -> io::Result<()> {
     let path = std::env::temp_dir().join(format!("script-{}.txt", std::process::id()));
     let script = Temporary(path);
     std::fs::write(&script.0, lines(LINES))?;
-    if output(proved, &script.0)? != output(second, &script.0)? {
-        return Err(io::Error::other("the two programs print different answers"));
+    let mut programs = vec![proved.to_string(), second.to_string()];
+    if let Some(audit) = audit {
+        programs.extend([audit.to_string(), format!("{second} audit")]);
     }
-    let mut times = [const { Vec::new() }; 2];
+    for pair in programs.chunks(2) {
+        if output(&pair[0], &script.0)? != output(&pair[1], &script.0)? {
+            let [a, b] = [&pair[0], &pair[1]];
+            return Err(io::Error::other(format!(
+                "{a} and {b} don't print the same"
+            )));
+        }
+    }
+    let mut times = vec![Times::new(); programs.len()];
     for _ in 0..effort.script_rounds {
-        for (program, times) in [proved, second].iter().zip(&mut times) {
+        for (program, times) in programs.iter().zip(&mut times) {
             times.push(run(program, &script.0)?);
         }
     }
     table.add("a million script lines", &times[0], &times[1], None, None);
+    if let [answers, others, audited, audited_too] = &times[..] {
+        table.add("a million lines audited", audited, audited_too, None, None);
+        println!(
+            "  beside the answers to the same lines: proved {:.2}, at most 1.2; second {:.2}",
+            best(audited) / best(answers),
+            best(audited_too) / best(others)
+        );
+    }
     Ok(())
 }
 

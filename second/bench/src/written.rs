@@ -1,16 +1,19 @@
 //! What is written into lent memory: frames as script lines, a plate as a file and back, its shades, the
-//! readings before them, a photograph as an image, scripts salvaged.
+//! readings before them, a photograph as an image, scripts salvaged, a plate judged, and a script line carried out.
 
 use crate::table::Table;
 use crate::timing::{here, race, Effort};
 use gulxinett::bytes;
 use second::{
-    Frame, State, FRAME_BYTES, GREY_FILE_BYTES, LONGEST_SCRIPT, PIXELS, RECORD_BYTES, REGISTERS,
+    Frame, Plate, State, FRAME_BYTES, GREY_FILE_BYTES, LONGEST_SCRIPT, PICTURE_HEIGHT, PIXELS,
+    RECORD_BYTES, REGISTERS, ROM_BANK,
 };
 use std::hint::black_box;
 
 const LINE: usize = 261;
 const ROW: usize = 128;
+/// Rows of the pictures that are those of their frame.
+const ROWS: [usize; 2] = [PICTURE_HEIGHT, PICTURE_HEIGHT - 1];
 
 /// Writes something with a number in it.
 type Writer = fn(&mut Lent, u32);
@@ -21,22 +24,27 @@ struct Lent {
     /// The records of no capture and of one held, as bytes and as the second program has them.
     bytes: [[u8; RECORD_BYTES]; 2],
     records: [State; 2],
+    rom: Vec<u8>,
     ram: Vec<u8>,
     room: [u8; GREY_FILE_BYTES],
     plate: Vec<u8>,
     photo: Vec<u8>,
     image: Vec<u8>,
-    /// Read as lit values.
+    /// Read as lit values, or as a frame.
     store: Vec<u8>,
+    /// The picture of that frame under the registers taken of the capture held, and the same with a bit that is not.
+    pictures: [Plate; 2],
+    /// A read of the picture area and a row.
+    lines: [Vec<u8>; 2],
     scripts: [Script; 3],
     text: Vec<u8>,
     report: Vec<u8>,
 }
 
-/// Times both on a row of the image, a write, a plate out and in, its shades, readings, a photograph and the
-/// largest scripts salvaged.
+/// Times both on a row of the image, a write, a plate out and in, its shades, readings, a photograph, the
+/// largest scripts salvaged, a plate judged, and steps.
 pub fn measure(effort: Effort, table: &mut Table) {
-    let pairs: [(&str, Writer, Writer); 10] = [
+    let pairs: [(&str, Writer, Writer); 13] = [
         ("a row's line", proved_row, second_row),
         ("a write's line", proved_write, second_write),
         ("export of a plate", proved_file, second_file),
@@ -55,6 +63,9 @@ pub fn measure(effort: Effort, table: &mut Table) {
             proved_salvage::<2>,
             second_salvage::<2>,
         ),
+        ("judging of a plate", proved_judge, second_judge),
+        ("a step: a read", proved_step::<0>, second_step::<0>),
+        ("a step: a row", proved_step::<1>, second_step::<1>),
     ];
     for (what, proved, second) in pairs {
         compare(what, effort, [proved, second], table);
@@ -62,18 +73,25 @@ pub fn measure(effort: Effort, table: &mut Table) {
 }
 
 fn compare(what: &str, effort: Effort, writers: [Writer; 2], table: &mut Table) {
+    let store: Vec<u8> = (0..FRAME_BYTES)
+        .map(|place| (place * place / 13) as u8)
+        .collect();
+    let picture = second::picture(&store, &held().taken).expect("a frame has its size");
+    let mut touched = picture;
+    touched[0x700] ^= 1;
     let lent = || Lent {
         row: std::array::from_fn(|place| place as u8 * 37),
         bytes: [State::RESET, held()].map(|state| bytes_of(&state)),
         records: [State::RESET, held()],
+        rom: vec![0xFF; ROM_BANK],
         ram: (0..8_192).map(|place| (place * place / 7) as u8).collect(),
         room: [0; GREY_FILE_BYTES],
         plate: plate(),
         photo: photograph(),
         image: vec![0; FRAME_BYTES],
-        store: (0..FRAME_BYTES)
-            .map(|place| (place * place / 13) as u8)
-            .collect(),
+        store: store.clone(),
+        pictures: [picture, touched],
+        lines: [b"01A100".to_vec(), row_lines()[3..][..LINE - 1].to_vec()],
         scripts: [
             Script::new(short_lines(), 2),
             Script::new(row_lines(), 2),
@@ -281,4 +299,46 @@ fn second_salvage<const KIND: usize>(lent: &mut Lent, _: u32) {
     let salvaged = second::salvage(&script.bytes, &mut lent.text, &mut lent.report);
     let answer = salvaged.map(|salvaged| (salvaged.lines * 65_536 + salvaged.length) as u64);
     assert_eq!(answer, Ok(script.due));
+}
+
+fn proved_judge(lent: &mut Lent, number: u32) {
+    let (plate, registers) = (&lent.pictures[number as usize % 2], &lent.records[1].taken);
+    let answer = bytes::judge(plate, &lent.store, registers, &mut lent.room);
+    assert_eq!(answer.0, ROWS[number as usize % 2] as u64);
+}
+
+fn second_judge(lent: &mut Lent, number: u32) {
+    let (plate, registers) = (&lent.pictures[number as usize % 2], &lent.records[1].taken);
+    let judged = second::judge(plate, &lent.store, registers, &mut lent.room);
+    assert_eq!(judged, Ok(ROWS[number as usize % 2]));
+}
+
+/// Bytes of the answers to a read and to a row.
+const ANSWERS: [usize; 2] = [5, 3];
+
+fn proved_step<const KIND: usize>(lent: &mut Lent, number: u32) {
+    lent.ram[0x100] = number as u8;
+    let session = bytes::Session {
+        state: &mut lent.bytes[0],
+        rom: &lent.rom,
+        ram: &mut lent.ram,
+        store: &mut lent.store,
+        image: &mut lent.image,
+    };
+    let answer = bytes::step(session, &lent.lines[KIND], &mut lent.room);
+    assert_eq!(answer.0, ANSWERS[KIND] as u64);
+}
+
+fn second_step<const KIND: usize>(lent: &mut Lent, number: u32) {
+    lent.ram[0x100] = number as u8;
+    let answered = second::step(
+        &mut lent.bytes[0],
+        &lent.rom,
+        &mut lent.ram,
+        &mut lent.store,
+        &mut lent.image,
+        &lent.lines[KIND],
+        &mut lent.room,
+    );
+    assert_eq!(answered, Ok(ANSWERS[KIND]));
 }

@@ -129,3 +129,42 @@ fn refusals() {
         }
     }
 }
+
+/// What mGBA made of two specimens, and of each alone; tests/incident says how.
+#[test]
+fn a_plate_of_two_specimens() {
+    let light = |file: &'static [u8]| &file[file.len() - FRAME_BYTES..];
+    let area = |save: &[u8]| Plate::try_from(&save[0x100..0xF00]).expect("3,584 of them");
+    let stag = light(include_bytes!("../../../tests/data/incident/stag.pgm"));
+    let ladybird = light(include_bytes!("../../../tests/data/incident/ladybird.pgm"));
+    // Exposure 0100h, a positive image, and thresholds of 88, 128 and 168.
+    let registers = std::array::from_fn(|number| match number {
+        0 => 3,
+        2 => 1,
+        1..=5 => 0,
+        _ => [88, 128, 168][number % 3],
+    });
+    for (save, upper, lower) in [
+        (
+            include_bytes!("../../../tests/data/incident/stag.sav"),
+            [1, 0],
+            [1, 0],
+        ),
+        (
+            include_bytes!("../../../tests/data/incident/ladybird.sav"),
+            [0, 1],
+            [0, 1],
+        ),
+        (
+            include_bytes!("../../../tests/data/incident/mixed.sav"),
+            [1, 0],
+            [0, 1],
+        ),
+    ] {
+        for (number, frame) in [stag, ladybird].into_iter().enumerate() {
+            let halves = [upper[number], lower[number]];
+            let wanted = std::array::from_fn(|y| halves[y / 56]);
+            assert_eq!(judged(&area(save), frame, &registers).1, wanted);
+        }
+    }
+}

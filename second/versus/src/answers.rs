@@ -5,7 +5,7 @@
 //! a length that is in use. Then come steps, numbers little-endian:
 //!
 //! - [`LENT`], which memory, its length as 4 bytes, a patch: it is lent so from here on;
-//! - the kind of a call 0 to 19 and its words, the answer as 8 bytes, how many memories it changed,
+//! - the kind of a call 0 to 21 and its words, the answer as 8 bytes, how many memories it changed,
 //!   and of each which one and a patch. The memory of what a call gives out, a picture, a line, a
 //!   file, or a text and its report, is all [`UNDRAWN`] before;
 //! - [`END`] and how many calls there were, as 8 bytes.
@@ -38,6 +38,15 @@ pub struct Answers {
     memories: [Vec<u8>; 9],
     lengths: [usize; PICTURE],
     calls: u64,
+}
+
+/// Which of the memories a picture is made of.
+fn frame_number(of: Lent) -> u8 {
+    if of == Lent::Image {
+        4
+    } else {
+        3
+    }
 }
 
 fn memories(side: &Side) -> [&[u8]; 9] {
@@ -93,7 +102,9 @@ impl Answers {
             | Call::Export { .. }
             | Call::Shades { .. }
             | Call::Readings { .. }
-            | Call::Save { .. } => &[OUT],
+            | Call::Save { .. }
+            | Call::Judge { .. }
+            | Call::Step { .. } => &[OUT],
             Call::Salvage { .. } => &[OUT, REPORT],
             _ => &[],
         };
@@ -148,8 +159,7 @@ impl Answers {
             }
             Call::Inspect => self.steps.push(4),
             Call::Picture { of, registers } => {
-                self.steps
-                    .extend([5, if *of == Lent::Image { 4 } else { 3 }]);
+                self.steps.extend([5, frame_number(*of)]);
                 self.steps.extend(&registers[..]);
             }
             Call::Record { frame, room } => {
@@ -189,6 +199,23 @@ impl Answers {
                 self.steps.extend((*room as u32).to_le_bytes());
             }
             Call::Restore => self.steps.push(19),
+            Call::Judge {
+                of,
+                plate,
+                registers,
+                room,
+            } => {
+                self.steps.extend([20, frame_number(*of)]);
+                self.steps.extend(&plate[..]);
+                self.steps.extend(&registers[..]);
+                self.steps.extend((*room as u16).to_le_bytes());
+            }
+            Call::Step { line, room } => {
+                self.steps.push(21);
+                self.steps.extend((line.len() as u32).to_le_bytes());
+                self.steps.extend(&line[..]);
+                self.steps.extend((*room as u16).to_le_bytes());
+            }
             Call::Image { .. }
             | Call::Photo { .. }
             | Call::Plate { .. }

@@ -71,6 +71,19 @@ pub enum Call {
     },
     /// The file lent, read as a save into state, RAM and frame store.
     Restore,
+    /// A plate judged row by row beside the picture of the image, or of the bytes that the frame store has, taken
+    /// as one, into so many bytes.
+    Judge {
+        of: Lent,
+        plate: Box<[u8; 3584]>,
+        registers: Box<[u8; 54]>,
+        room: usize,
+    },
+    /// A script line carried out, its answer into so many bytes.
+    Step {
+        line: Box<[u8]>,
+        room: usize,
+    },
     /// Another image is lent from here on.
     Image {
         kind: u8,
@@ -161,6 +174,20 @@ impl fmt::Display for Call {
             }
             Call::Save { room } => write!(f, "save in {room} bytes"),
             Call::Restore => write!(f, "restoring of the file lent"),
+            Call::Judge {
+                of,
+                plate,
+                registers,
+                room,
+            } => write!(
+                f,
+                "judging of plate {} beside {of:?} under {} in {room} bytes",
+                hex(&plate[..]),
+                hex(&registers[..])
+            ),
+            Call::Step { line, room } => {
+                write!(f, "step '{}' in {room} bytes", line.escape_ascii())
+            }
             Call::Image { kind, seed } => write!(f, "image of kind {kind}, seed {seed}"),
             Call::Photo { seed } => write!(f, "photograph of seed {seed}"),
             Call::Plate { seed } => write!(f, "plate of seed {seed}"),

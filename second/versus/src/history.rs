@@ -4,9 +4,12 @@ use crate::answers::Answers;
 use crate::call::{Call, Lent};
 use crate::lines;
 use crate::random::Random;
+use crate::script::{frames, spoil};
 use crate::sides::{refused, Beginning, Pair};
 use crate::sweep::{first_layout, room_for, EXPOSURES};
-use second::{Refusal, State, Timing, GREY_FILE_BYTES, PIXELS, SAVE_BYTES};
+use second::{
+    Refusal, State, Timing, GREY_FILE_BYTES, PIXELS, PLATE_BYTES, PLATE_OFFSET, SAVE_BYTES,
+};
 use std::collections::VecDeque;
 
 /// Addresses at the edges of the areas and of the picture.
@@ -111,9 +114,14 @@ impl<'a> History<'a> {
         let running = before.is_some_and(|state| state.running());
         let (before, after) = (held(before), held(self.state()));
         match call {
-            Call::Write { .. } if after && !before => self.started = true,
+            Call::Write { .. } | Call::Step { .. } if after && !before => self.started = true,
             Call::Tick { .. } if before && !after => {
                 self.captures += u64::from(std::mem::take(&mut self.started));
+            }
+            Call::Step { line, .. } if before && !after => {
+                let whole = std::mem::take(&mut self.started);
+                // by a reset it is let go
+                self.captures += u64::from(whole && line.starts_with(b"03"));
             }
             Call::Reset | Call::Restore | Call::Put { .. } => self.started = false,
             Call::Export { .. } if running => self.halves += 1,
@@ -185,7 +193,9 @@ impl<'a> History<'a> {
                         room: room_for(GREY_FILE_BYTES, self.random),
                     }
                 }
-                102..=480 => {
+                102..=104 => return self.judge(),
+                105..=140 => self.plan_steps(),
+                141..=480 => {
                     return Call::Read {
                         address: self.address(),
                     }
@@ -372,6 +382,60 @@ impl<'a> History<'a> {
         Call::Record {
             frame: lines::frame(self.random, kind),
             room: self.random.below(lines::MOST_ROOM as u32 + 1) as usize,
+        }
+    }
+
+    /// A plate beside a frame: the picture area, the picture of a frame, or bytes of which no picture is made, with rows
+    /// that are others' now and then.
+    fn judge(&mut self) -> Call {
+        let of = self.random.pick(&[Lent::Image, Lent::Image, Lent::Store]);
+        let registers = match self.state() {
+            Some(state) if self.random.once_in(2) => state.taken,
+            _ => self.registers(),
+        };
+        let side = &self.pair.second;
+        let frame = match of {
+            Lent::Image => &side.image,
+            _ => &side.store,
+        };
+        let mut plate = second::picture(frame, &registers).unwrap_or([0; PLATE_BYTES]);
+        let area = side.ram.get(PLATE_OFFSET..PLATE_OFFSET + PLATE_BYTES);
+        match (self.random.below(4), area) {
+            (0, Some(area)) => plate.copy_from_slice(area),
+            (1, Some(area)) => {
+                let from = self.random.below(PLATE_BYTES as u32) as usize;
+                plate[from..].copy_from_slice(&area[from..]);
+            }
+            (2, _) => {
+                for _ in 0..self.random.below(20) {
+                    plate[self.random.below(PLATE_BYTES as u32) as usize] = self.random.byte();
+                }
+            }
+            _ => {}
+        }
+        Call::Judge {
+            of,
+            plate: Box::new(plate),
+            registers: Box::new(registers),
+            room: room_for(112, self.random),
+        }
+    }
+
+    /// Script lines carried out, some of them broken, their answers in buffers that may be too short.
+    fn plan_steps(&mut self) {
+        for mut line in frames(self.random) {
+            if self.random.once_in(8) {
+                spoil(self.random, &mut line);
+            }
+            let room = match self.random.below(30) {
+                0 => self.random.below(11) as usize,
+                1 => 11 + self.random.below(300) as usize,
+                _ => 11,
+            };
+            self.planned.push_back(Call::Step {
+                line: line.into(),
+                room,
+            });
         }
     }
 

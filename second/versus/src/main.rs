@@ -4,12 +4,12 @@
 //! state and lent byte. `versus script PROGRAM_A PROGRAM_B [SCRIPTS [SEED]]` feeds random scripts
 //! to two programs and compares what they print; each is named with its arguments in one word of
 //! the shell, apart by spaces. `versus audit PROGRAM_A PROGRAM_B [RECORDINGS [SEED]]` compares so what
-//! two programs say of random recordings, each with the name of a battery save after its other
-//! arguments, or with none. `versus answers FILE [CALLS [SEED]]` compares as the first does, and
+//! two programs say of random recordings; where their arguments have the word SAVE, the name of a
+//! battery save stands in its place. `versus answers FILE [CALLS [SEED]]` compares as the first does, and
 //! writes every call with the second program's answer to a file, for another caller to replay.
 //!
 //! The modules from the bottom up, each of which uses only those named before it:
-//! call, random, shrink, script, recordings, files, sides, answers, lines, sweep, photos, plates, rows, salvages, saves, history.
+//! call, random, shrink, script, recordings, files, sides, answers, lines, sweep, photos, plates, rows, salvages, saves, judged, steps, history.
 
 #![forbid(unsafe_code)]
 
@@ -17,6 +17,7 @@ mod answers;
 mod call;
 mod files;
 mod history;
+mod judged;
 mod lines;
 mod photos;
 mod plates;
@@ -28,6 +29,7 @@ mod saves;
 mod script;
 mod shrink;
 mod sides;
+mod steps;
 mod sweep;
 
 use answers::Answers;
@@ -207,6 +209,14 @@ fn sweeps(tally: &mut Tally, random: &mut Random) {
     told(tally, "saves", |tally| {
         let restored = saves::compare(tally, random);
         format!(", {restored} of them of files that are read")
+    });
+    told(tally, "plates judged", |tally| {
+        let [whole, mixed] = judged::compare(tally, random);
+        format!(", {whole} of them of a frame's own plate and {mixed} of one that is so in part")
+    });
+    told(tally, "steps", |tally| {
+        let [done, refused] = steps::compare(tally, random);
+        format!(", {done} of them answered 00 and {refused} answered with a refusal of the line")
     });
 }
 

@@ -9,8 +9,8 @@ use std::{env, fs, io, process};
 
 /// Bytes of a bank of RAM.
 const BANK: usize = 8_192;
-/// Sizes of files that are no battery save.
-const NO_SAVES: [usize; 7] = [0, 1, 8_191, 8_193, 3 * BANK, 131_073, 32 * BANK];
+/// The word of a program's arguments that stands for the name of a battery save.
+const SAVE: &str = "SAVE";
 /// Offsets beside a border of the picture area or of a bank.
 const BORDERS: [u16; 10] = [
     0x0000, 0x0001, 0x00FE, 0x00FF, 0x0100, 0x0EFE, 0x0EFF, 0x0F00, 0x1FFE, 0x1FFF,
@@ -31,11 +31,8 @@ pub fn compare(a: &str, b: &str, recordings: u64, seed: u64) -> bool {
                 return false;
             }
         };
-        let with_save = |program| match &save {
-            Some(Save(path)) => format!("{program} {}", path.display()),
-            None => String::from(program),
-        };
-        match agreed(&with_save(a), &with_save(b), recording) {
+        let [a, b] = [a, b].map(|program| program.replace(SAVE, &save.0.to_string_lossy()));
+        match agreed(&a, &b, recording) {
             Some(printed) => count(&mut events, &printed),
             None => return false,
         }
@@ -71,16 +68,9 @@ fn count(events: &mut BTreeMap<String, u64>, printed: &[u8]) {
 struct Save(PathBuf);
 
 impl Save {
-    /// None at all, a save of any number of banks, or now and then a file of another size.
-    fn random(random: &mut Random) -> io::Result<Option<Save>> {
-        let length = match random.below(8) {
-            0..=2 => return Ok(None),
-            3 if random.once_in(3) => random.pick(&NO_SAVES),
-            3..=4 => BANK,
-            5 => 2 * BANK,
-            6 => 16 * BANK,
-            _ => random.pick(&[4 * BANK, 8 * BANK]),
-        };
+    /// A save of any number of banks.
+    fn random(random: &mut Random) -> io::Result<Save> {
+        let length = BANK * random.pick(&[1, 1, 2, 4, 8, 16]);
         let mut bytes = vec![random.pick(&[0, 0xFF]); length];
         if random.once_in(2) {
             random.fill(&mut bytes);
@@ -88,7 +78,7 @@ impl Save {
         let path = env::temp_dir().join(format!("versus-{}.sav", process::id()));
         let save = Save(path);
         fs::write(&save.0, bytes)?;
-        Ok(Some(save))
+        Ok(save)
     }
 }
 

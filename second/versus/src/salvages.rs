@@ -1,7 +1,7 @@
 //! Scripts with broken lines and copies on their end, salvaged.
 
 use crate::call::Call;
-use crate::files::script::{self, SHORT, SPOILED};
+use crate::files::script::{self, row, SHORT, SPOILED};
 use crate::random::Random;
 use crate::sides::Side;
 use crate::sweep::Tally;
@@ -260,13 +260,6 @@ fn text(lines: &[&[u8]]) -> Vec<u8> {
         .iter()
         .flat_map(|line| [line, &b"\n"[..]].concat())
         .collect()
-}
-
-/// A row of the image with random pixels, as a line.
-fn row(random: &mut Random) -> Vec<u8> {
-    let mut row = b"047F".to_vec();
-    row.extend((0..256).map(|_| random.pick(b"0123456789ABCDEF")));
-    row
 }
 
 /// Accepted lines of so many bytes with their LF, a reset first; 15 bytes can be had at least.

@@ -161,6 +161,21 @@ impl Side {
             self.make_room(*room);
             return bytes::save(&self.state, &self.ram, &self.store, &mut self.out).0;
         }
+        if let Call::Judge {
+            of,
+            plate,
+            registers,
+            room,
+        } = call
+        {
+            self.make_room(*room);
+            let frame = self.lent(*of).clone();
+            return bytes::judge(plate, &frame, registers, &mut self.out).0;
+        }
+        if let Call::Step { line, room } = call {
+            self.make_room(*room);
+            return self.step_archive(line);
+        }
         let Side {
             state,
             rom,
@@ -232,6 +247,22 @@ impl Side {
         }
         if let Call::Restore = call {
             return self.restore_second();
+        }
+        if let Call::Judge {
+            of,
+            plate,
+            registers,
+            room,
+        } = call
+        {
+            self.make_room(*room);
+            let frame = self.lent(*of).clone();
+            let judged = second::judge(plate, &frame, registers, &mut self.out);
+            return answered(judged, |rows| rows as u64);
+        }
+        if let Call::Step { line, room } = call {
+            self.make_room(*room);
+            return self.step_second(line);
         }
         let Some(mut state) = State::from_bytes(&self.state) else {
             return refused(1);
@@ -322,6 +353,31 @@ impl Side {
         } = self;
         let read = second::restore(file, state, ram, store);
         answered(read, |()| 0)
+    }
+
+    fn step_archive(&mut self, line: &[u8]) -> u64 {
+        let session = bytes::Session {
+            state: &mut self.state,
+            rom: &self.rom,
+            ram: &mut self.ram,
+            store: &mut self.store,
+            image: &mut self.image,
+        };
+        bytes::step(session, line, &mut self.out).0
+    }
+
+    fn step_second(&mut self, line: &[u8]) -> u64 {
+        let Side {
+            state,
+            rom,
+            ram,
+            store,
+            image,
+            out,
+            ..
+        } = self;
+        let stepped = second::step(state, rom, ram, store, image, line, out);
+        answered(stepped, |length| length as u64)
     }
 
     fn draw_second(&mut self, of: Lent, registers: &[u8; 54]) -> u64 {
@@ -448,6 +504,18 @@ impl Pair {
                 ("RAM", &a.ram, &b.ram),
                 ("store", &a.store, &b.store),
                 ("file", &a.file, &b.file),
+            ],
+            Call::Judge { .. } => &[
+                ("store", &a.store, &b.store),
+                ("image", &a.image, &b.image),
+                ("rows", &a.out, &b.out),
+            ],
+            Call::Step { .. } => &[
+                ("ROM", &a.rom, &b.rom),
+                ("RAM", &a.ram, &b.ram),
+                ("store", &a.store, &b.store),
+                ("image", &a.image, &b.image),
+                ("answer", &a.out, &b.out),
             ],
             Call::Salvage { .. } => &[
                 ("script", &a.file, &b.file),

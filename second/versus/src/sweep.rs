@@ -175,7 +175,7 @@ pub fn records() -> Vec<Choice<Vec<u8>>> {
     records
 }
 
-const ROMS: [Choice<usize>; 8] = [
+pub const ROMS: [Choice<usize>; 8] = [
     (16_384, false),
     (32_768, false),
     (65_536, false),
@@ -236,7 +236,8 @@ pub fn lowest(reasons: &[(u64, bool)]) -> Option<u64> {
         .min()
 }
 
-fn lend(length: usize) -> Vec<u8> {
+/// Bytes that are not all the same.
+pub fn lend(length: usize) -> Vec<u8> {
     (0..length)
         .map(|place| (place * 7 + place / 256) as u8)
         .collect()

@@ -9,6 +9,13 @@ pub const SPOILED: usize = 700;
 /// A line of each short kind.
 pub const SHORT: [&[u8]; 4] = [b"00", b"01A000", b"02A00003", b"0300000001"];
 
+/// A row of the image with random pixels, as a line.
+pub fn row(random: &mut Random) -> Vec<u8> {
+    let mut row = b"047F".to_vec();
+    row.extend((0..256).map(|_| random.pick(b"0123456789ABCDEF")));
+    row
+}
+
 /// A script, more often than not with copies on its end, broken here and there.
 pub fn random(random: &mut Random) -> Vec<u8> {
     let mut lines = random_lines(random);
