@@ -237,6 +237,12 @@ pub number-zero : (line : List ℕ) (at : ℕ) → numberAt line at 0 ≡ 0
 unfolding numberAt
 number-zero line at = refl
 
+-- two digits, each by its place
+pub two-number : (line : List ℕ) (at a b : ℕ) → a ≡ worth (getD line at 0) → b ≡ worth (getD line (at + 1) 0) → a * 16 + b ≡ numberAt line at 2
+two-number line at a b ea eb =
+    let first = ap (λ (n : ℕ). worth (getD line n 0)) (add-zero at) in
+    omega (arith, number-zero line at, number-more line at 0, number-more line at 1, first)
+
 -- four digits, each by its place
 pub four-number : (line : List ℕ) (at a b c d : ℕ) → a ≡ worth (getD line at 0) → b ≡ worth (getD line (at + 1) 0) → c ≡ worth (getD line (at + 2) 0) → d ≡ worth (getD line (at + 3) 0) → a * 4096 + b * 256 + c * 16 + d ≡ numberAt line at 4
 four-number line at a b c d ea eb ec ed =

@@ -256,9 +256,5 @@ pub fn byte_at(line: &[u8], at: usize) -> u8
     requires { ⌜ (at + 2 ≤ length (now line)) × (hexPart (now line) at 2 ≡ true) ⌝ }
     ensures { λ r. ⌜ r ≡ numberAt (now (line .entry)) at 2 ⌝ }
 {
-    let byte = read_number(line, at, 2);
-    let Number::Value(b) = byte else {
-        return 0;
-    };
-    b as u8
+    (worth_of(line[at]) * 16 + worth_of(line[at + 1])) as u8
 }
