@@ -12,6 +12,7 @@ import itertools
 import operator
 import os
 import platform
+import stat
 from pathlib import Path
 from typing import NamedTuple, Optional
 
@@ -286,11 +287,23 @@ _written = itertools.count()
 
 def write_whole(path, data):
     """Writes a file so that a kill at any moment leaves the old one or the new one, whole: beside it, flushed to the disk,
-    then renamed over it. What a kill leaves beside it, `.PROCESS-NUMBER.part` after its name, may be removed."""
-    path = os.fspath(path)
-    beside = "%s.%d-%d.part" % (os.fsdecode(path), os.getpid(), next(_written))
+    then renamed over it. What a kill leaves beside it, `.PROCESS-NUMBER.part` after its name, may be removed. A link stays
+    one, a file keeps its rights, and what is no file on a disk, as a pipe, is written straight."""
+    path = os.fsdecode(path)
+    mode = os.stat(path).st_mode if os.path.lexists(path) else None
+    if mode is not None:
+        # a file that may not be written is not replaced either, and a folder can't be opened
+        with open(path, "ab" if stat.S_ISREG(mode) else "wb") as old:
+            if not stat.S_ISREG(mode):
+                old.write(data)
+                return
+        # where a link leads, so that it stays one
+        path = os.path.realpath(path)
+    beside = "%s.%d-%d.part" % (path, os.getpid(), next(_written))
     try:
         with open(beside, "wb") as file:
+            if mode is not None:
+                os.chmod(beside, stat.S_IMODE(mode))
             file.write(data)
             file.flush()
             os.fsync(file.fileno())

@@ -178,6 +178,26 @@ class Writing(unittest.TestCase):
                 write_whole(path, "text")
             self.assertEqual((path.read_bytes(), sorted(os.listdir(folder))), (b"", ["cartridge.save", "taken"]))
 
+    @unittest.skipUnless(hasattr(os, "mkfifo"), "there are no such pipes here")
+    def test_links_stay_and_pipes_are_written_straight(self):
+        with tempfile.TemporaryDirectory() as folder:
+            path, link, nowhere, pipe = (Path(folder, name) for name in ("file", "link", "nowhere", "pipe"))
+            path.write_bytes(b"old")
+            path.chmod(0o640)
+            link.symlink_to("file")
+            nowhere.symlink_to("none")
+            write_whole(link, b"new")
+            self.assertEqual((path.read_bytes(), path.stat().st_mode & 0o777, link.is_symlink()), (b"new", 0o640, True))
+            with self.assertRaises(FileNotFoundError):
+                write_whole(nowhere, b"new")
+            os.mkfifo(pipe)
+            reader = subprocess.Popen(["cat", pipe], stdout=subprocess.PIPE)
+            write_whole(pipe, bytes(100_000))
+            self.assertEqual(reader.communicate(timeout=60)[0], bytes(100_000))
+            self.assertTrue(pipe.is_fifo())
+            write_whole("/dev/null", b"new")
+            self.assertEqual(sorted(os.listdir(folder)), ["file", "link", "nowhere", "pipe"])
+
     @unittest.skipUnless(hasattr(signal, "SIGKILL"), "nothing is killed so here")
     def test_a_kill_leaves_the_old_or_the_new(self):
         files = [half_way(banks).save() for banks in (1, 16)]

@@ -3,7 +3,6 @@
 use crate::failure::Failure;
 use gulxinett::Whole;
 use std::ffi::OsStr;
-use std::fs::{self, File};
 use std::io::{self, IsTerminal, Write};
 use std::path::Path;
 
@@ -15,10 +14,8 @@ pub struct Output {
 
 enum Into {
     Standard(io::Stdout),
-    /// A file beside the one that it becomes.
+    /// A file beside the one that it becomes; a pipe or device as it is.
     Whole(Whole),
-    /// Something that is no file on a disk and can't be replaced, as a pipe.
-    Straight(File),
 }
 
 impl Output {
@@ -32,8 +29,11 @@ impl Output {
         };
         let path = Path::new(word);
         let name = path.display().to_string();
-        match opened(path) {
-            Ok(into) => Ok(Output { name, into }),
+        match Whole::beside(path) {
+            Ok(whole) => Ok(Output {
+                name,
+                into: Into::Whole(whole),
+            }),
             Err(error) => Err(Failure::unwritten(name, &error)),
         }
     }
@@ -59,7 +59,6 @@ impl Output {
         let written = match &mut self.into {
             Into::Standard(stdout) => stdout.write_all(bytes).and_then(|()| stdout.flush()),
             Into::Whole(whole) => whole.write_all(bytes),
-            Into::Straight(file) => file.write_all(bytes),
         };
         written.map_err(|error| Failure::unwritten(&self.name, &error))
     }
@@ -68,7 +67,7 @@ impl Output {
     pub fn finish(self) -> Result<(), Failure> {
         let finished = match self.into {
             Into::Whole(whole) => whole.finish(),
-            Into::Standard(_) | Into::Straight(_) => Ok(()),
+            Into::Standard(_) => Ok(()),
         };
         finished.map_err(|error| Failure::unwritten(self.name, &error))
     }
@@ -77,27 +76,6 @@ impl Output {
     pub fn all(mut self, bytes: &[u8]) -> Result<(), Failure> {
         self.write(bytes)?;
         self.finish()
-    }
-}
-
-/// What a path is written by. Only a file on a disk is replaced, and only a name that nothing has is given to a new
-/// one: a link to what can't be followed, as to a pipe, is neither.
-fn opened(path: &Path) -> io::Result<Into> {
-    match fs::metadata(path) {
-        Ok(there) if there.is_file() => {
-            // a file that may not be written is not replaced either
-            File::options().write(true).open(path)?;
-            // where a link leads, so that it stays one
-            Ok(Into::Whole(Whole::beside(fs::canonicalize(path)?)?))
-        }
-        Ok(there) if there.is_dir() => Err(io::Error::from(io::ErrorKind::IsADirectory)),
-        Ok(_) => Ok(Into::Straight(File::options().write(true).open(path)?)),
-        Err(error) if error.kind() != io::ErrorKind::NotFound => Err(error),
-        Err(error) => match fs::symlink_metadata(path) {
-            // a link that leads nowhere
-            Ok(_) => Err(error),
-            Err(_) => Ok(Into::Whole(Whole::beside(path)?)),
-        },
     }
 }
 

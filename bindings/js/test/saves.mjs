@@ -1,8 +1,9 @@
 // The save file over the browser module: its checksum, damages, and a kill while it is written.
 // usage: node saves.mjs
 import assert from "node:assert/strict";
-import { spawn } from "node:child_process";
-import { mkdirSync, mkdtempSync, readFileSync, readdirSync, rmSync, writeFileSync } from "node:fs";
+import { execFileSync, spawn } from "node:child_process";
+import { chmodSync, lstatSync, mkdirSync, mkdtempSync, readFileSync, readdirSync, rmSync, statSync, symlinkSync, writeFileSync } from "node:fs";
+import { readFile } from "node:fs/promises";
 import { tmpdir } from "node:os";
 import { join } from "node:path";
 import { pathToFileURL } from "node:url";
@@ -212,6 +213,25 @@ async function writtenWhole(folder) {
   say("a file is written whole, and nothing is left beside it");
 }
 
+/** Links stay, and what can't be replaced is written straight. */
+async function writtenStraight(folder) {
+  const [path, link, nowhere, pipe] = ["file", "link", "nowhere", "pipe"].map((name) => join(folder, name));
+  writeFileSync(path, "old");
+  chmodSync(path, 0o640);
+  symlinkSync("file", link);
+  symlinkSync("none", nowhere);
+  await writeWhole(link, frame);
+  assert.deepEqual(new Uint8Array(readFileSync(path)), frame);
+  assert.deepEqual([statSync(path).mode & 0o777, lstatSync(link).isSymbolicLink()], [0o640, true]);
+  await assert.rejects(writeWhole(nowhere, frame), { code: "ENOENT" });
+  execFileSync("mkfifo", [pipe]);
+  const [read] = await Promise.all([readFile(pipe), writeWhole(pipe, frame)]);
+  assert.deepEqual([new Uint8Array(read), statSync(pipe).isFIFO()], [frame, true]);
+  await writeWhole("/dev/null", frame);
+  assert.deepEqual(readdirSync(folder).sort(), ["file", "link", "nowhere", "pipe"]);
+  say("links stay, and pipes and devices are written straight");
+}
+
 /** A writer that never stops is killed at some moment. */
 async function killed(folder) {
   const files = [1, 16].map((banks) => halfWay(banks).save());
@@ -251,6 +271,8 @@ const folder = mkdtempSync(join(tmpdir(), "gulxinett-"));
 try {
   await writtenWhole(folder);
   await killed(folder);
+  mkdirSync(join(folder, "straight"));
+  await writtenStraight(join(folder, "straight"));
 } finally {
   rmSync(folder, { recursive: true });
 }

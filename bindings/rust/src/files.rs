@@ -11,7 +11,8 @@ static WRITTEN: AtomicU64 = AtomicU64::new(0);
 
 /// Writes a file so that a kill at any moment leaves the old one or the new one, whole: beside it, flushed to
 /// the disk, then renamed over it. Two processes that write one file at once each leave theirs or the
-/// other's. What a kill leaves beside it, `.PROCESS-NUMBER.part` after its name, may be removed.
+/// other's. What a kill leaves beside it, `.PROCESS-NUMBER.part` after its name, may be removed. A link stays one, a file
+/// keeps its rights, and what is no file on a disk, as a pipe, is written straight.
 pub fn write_whole(path: impl AsRef<Path>, bytes: &[u8]) -> io::Result<()> {
     let mut whole = Whole::beside(path)?;
     whole.write_all(bytes)?;
@@ -22,37 +23,59 @@ pub fn write_whole(path: impl AsRef<Path>, bytes: &[u8]) -> io::Result<()> {
 /// once. Dropped before that, it is gone and the old one is there.
 #[derive(Debug)]
 pub struct Whole {
-    path: PathBuf,
-    beside: PathBuf,
     file: File,
-    /// It has its name, and there is nothing to remove.
-    finished: bool,
+    /// Its name until it is finished and the name that it gets; none of what is written straight, or is finished.
+    names: Option<(PathBuf, PathBuf)>,
 }
 
 impl Whole {
-    /// An empty file beside the one that it becomes, whose rights it has if that is there.
+    /// An empty file beside the one that it becomes, whose rights it has if that is there. Only a file on a disk is replaced,
+    /// and only a name that nothing has is given to a new one; a pipe or device is opened as it is.
     pub fn beside(path: impl AsRef<Path>) -> io::Result<Whole> {
-        let path = path.as_ref().to_owned();
-        let beside = name_beside(&path)?;
-        let file = File::create(&beside)?;
-        let whole = Whole {
-            path,
-            beside,
-            file,
-            finished: false,
-        };
-        if let Ok(old) = fs::metadata(&whole.path) {
-            whole.file.set_permissions(old.permissions())?;
+        let path = path.as_ref();
+        match fs::metadata(path) {
+            Ok(old) if old.is_file() => {
+                // a file that may not be written is not replaced either
+                File::options().write(true).open(path)?;
+                // where a link leads, so that it stays one
+                let whole = Whole::becoming(fs::canonicalize(path)?)?;
+                whole.file.set_permissions(old.permissions())?;
+                Ok(whole)
+            }
+            Ok(old) if old.is_dir() => Err(io::Error::from(io::ErrorKind::IsADirectory)),
+            Ok(_) => Ok(Whole {
+                file: File::options().write(true).open(path)?,
+                names: None,
+            }),
+            // a link that leads nowhere, or only the system knows where, stays too
+            Err(error)
+                if error.kind() != io::ErrorKind::NotFound
+                    || fs::symlink_metadata(path).is_ok() =>
+            {
+                Err(error)
+            }
+            Err(_) => Whole::becoming(path.to_owned()),
         }
-        Ok(whole)
+    }
+
+    fn becoming(path: PathBuf) -> io::Result<Whole> {
+        let beside = name_beside(&path)?;
+        Ok(Whole {
+            file: File::create(&beside)?,
+            names: Some((beside, path)),
+        })
     }
 
     /// Everything is written: has the disk take it, and renames it over the old one.
     pub fn finish(mut self) -> io::Result<()> {
+        let Some((beside, path)) = &self.names else {
+            return Ok(());
+        };
         self.file.sync_all()?;
-        fs::rename(&self.beside, &self.path)?;
-        self.finished = true;
-        flush_folder(&self.path)
+        fs::rename(beside, path)?;
+        let flushed = flush_folder(path);
+        self.names = None;
+        flushed
     }
 }
 
@@ -68,9 +91,9 @@ impl Write for Whole {
 
 impl Drop for Whole {
     fn drop(&mut self) {
-        if !self.finished {
+        if let Some((beside, _)) = &self.names {
             // the reason is what is told
-            let _ = fs::remove_file(&self.beside);
+            let _ = fs::remove_file(beside);
         }
     }
 }

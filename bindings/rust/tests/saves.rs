@@ -292,6 +292,37 @@ fn a_file_is_written_whole_and_nothing_is_left_beside_it() {
     fs::remove_dir_all(folder).unwrap();
 }
 
+#[cfg(unix)]
+#[test]
+fn links_stay_and_pipes_are_written_straight() {
+    use std::os::unix::fs::{symlink, FileTypeExt, PermissionsExt};
+    let folder = folder("links");
+    let [path, link, nowhere, pipe] = ["file", "link", "nowhere", "pipe"].map(|it| folder.join(it));
+    fs::write(&path, b"old").unwrap();
+    fs::set_permissions(&path, fs::Permissions::from_mode(0o640)).unwrap();
+    symlink("file", &link).unwrap();
+    symlink("none", &nowhere).unwrap();
+    write_whole(&link, b"new").unwrap();
+    assert!(fs::symlink_metadata(&link).unwrap().is_symlink());
+    assert_eq!(fs::read(&path).unwrap(), b"new");
+    let mode = fs::metadata(&path).unwrap().permissions().mode();
+    assert_eq!(mode & 0o777, 0o640);
+    assert!(write_whole(&nowhere, b"new").is_err());
+    assert!(fs::symlink_metadata(&nowhere).unwrap().is_symlink());
+    let made = std::process::Command::new("mkfifo").arg(&pipe).status();
+    assert!(made.unwrap().success());
+    let reader = std::thread::spawn({
+        let pipe = pipe.clone();
+        move || fs::read(pipe).unwrap()
+    });
+    write_whole(&pipe, &[7; 100_000]).unwrap();
+    assert!(reader.join().unwrap() == [7; 100_000]);
+    assert!(fs::metadata(&pipe).unwrap().file_type().is_fifo());
+    write_whole("/dev/null", b"new").unwrap();
+    assert_eq!(fs::read_dir(&folder).unwrap().count(), 4);
+    fs::remove_dir_all(folder).unwrap();
+}
+
 #[test]
 fn a_file_in_pieces_is_there_once_it_is_finished() {
     let folder = folder("pieces");
