@@ -57,6 +57,15 @@ static void salvage(void)
     gulxinett_salvage(script, length, text, sizeof text, report, sizeof report);
 }
 
+/* A session of a reset, a capture from its start to its end, and a read. */
+static void step(void)
+{
+    static const char *const lines[] = {"00", "02400010", "02A00003", "03FFFFFFFF", "01A000"};
+    for (size_t k = 0; k < sizeof lines / sizeof *lines; k++)
+        gulxinett_step(state, sizeof state, rom, sizeof rom, ram, sizeof ram, store, sizeof store, image, sizeof image,
+                       (const uint8_t *)lines[k], strlen(lines[k]), text, sizeof text);
+}
+
 /* A capture in each mode, some of it pixel by pixel, and every other call. */
 static void everything(void)
 {
@@ -72,6 +81,7 @@ static void everything(void)
         tick(UINT32_MAX);
         gulxinett_inspect(state, sizeof state);
         gulxinett_picture(image, sizeof image, state + 13, picture);
+        gulxinett_judge(picture, image, sizeof image, state + 13, report, sizeof report);
         write_byte(0x4000, 0);
         gulxinett_read(state, sizeof state, rom, sizeof rom, ram, sizeof ram, 0xA100);
         gulxinett_read(state, sizeof state, rom, sizeof rom, ram, sizeof ram, 0x0000);
@@ -84,6 +94,7 @@ static void everything(void)
         salvage();
         gulxinett_save(state, sizeof state, ram, sizeof ram, store, sizeof store, save, sizeof save);
         gulxinett_restore(save, sizeof save, state, sizeof state, ram, sizeof ram, store, sizeof store);
+        step();
     }
 }
 

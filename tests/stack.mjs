@@ -27,6 +27,7 @@ for (let mode = 0; mode < 16; mode++) {
   cartridge.inspect();
   cartridge.choose(mode);
   cartridge.picture();
+  cartridge.judge();
   cartridge.record();
   cartridge.export();
   cartridge.place();
@@ -35,6 +36,7 @@ for (let mode = 0; mode < 16; mode++) {
   cartridge.salvage();
   cartridge.save();
   cartridge.restore();
+  cartridge.step();
 }
 const used = stack - lowest();
 console.log(`stack: calls in every mode used ${used} bytes of the browser module's ${stack}; ${allowed} were worked out`);

@@ -59,6 +59,17 @@ export function lend(path) {
       view("registers").set(view("state").subarray(REGISTERS_OFFSET, REGISTERS_OFFSET + SIZES.registers));
       return value(call.gulxinett_picture(...lent("image"), at.registers, at.picture));
     },
+    /** Which rows of that picture are the image's: takes the room of a line. */
+    judge: () => value(call.gulxinett_judge(at.picture, ...lent("image"), at.registers, ...lent("line"))),
+    /** A session of a reset, a capture from its start to its end, and a read; takes the room of a script and of what is salvaged. */
+    step() {
+      for (const words of ["00", "02400010", "02A00003", "03FFFFFFFF", "01A000"]) {
+        const line = new TextEncoder().encode(words);
+        view("script").set(line);
+        const session = [...lent("state"), at.text, 16384n, ...lent("ram", "store", "image")];
+        value(call.gulxinett_step(...session, at.script, BigInt(line.length), ...lent("report")));
+      }
+    },
     export: () => value(call.gulxinett_export(...lent("ram", "plate"))),
     place: () => value(call.gulxinett_place(...lent("state", "ram", "plate"))),
     /** Takes the plate's room. */
