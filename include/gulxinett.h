@@ -176,6 +176,48 @@ uint64_t gulxinett_step(uint8_t *state, size_t state_len,
                         const uint8_t *line, size_t line_len,
                         uint8_t *out, size_t out_len);
 
+/* An audit of a recording, a bus script: what became of each capture, as docs/AUDIT.md has it. The book is 13 numbers,
+ * all 0 at first, of which the first is how many bytes the last call has put at the start of out; line is
+ * 261 bytes for a line that has begun, whatever they hold at first. Each is refused as 1 for bytes that are no
+ * record where it is lent a state, then as 7 for a book, a line or a buffer (of fewer than 512 bytes) of another size.
+ *
+ * Reads a piece of the recording up to its first LF and with it; a line that ends there is carried out as by
+ * gulxinett_step, and its event, if it makes one, put into out. Value: how many bytes of the piece were read. */
+uint64_t gulxinett_audit(uint64_t *book, size_t book_len,
+                         uint8_t *line, size_t line_len,
+                         uint8_t *state, size_t state_len,
+                         const uint8_t *rom, size_t rom_len,
+                         uint8_t *ram, size_t ram_len,
+                         uint8_t *store, size_t store_len,
+                         uint8_t *image, size_t image_len,
+                         const uint8_t *piece, size_t piece_len,
+                         uint8_t *out, size_t out_len);
+
+/* The end of the recording: the event of a last line without LF, and that a capture is held. Value: how many bytes
+ * were put into out. */
+uint64_t gulxinett_audit_end(uint64_t *book, size_t book_len,
+                             const uint8_t *line, size_t line_len,
+                             uint8_t *state, size_t state_len,
+                             const uint8_t *rom, size_t rom_len,
+                             uint8_t *ram, size_t ram_len,
+                             uint8_t *store, size_t store_len,
+                             uint8_t *image, size_t image_len,
+                             uint8_t *out, size_t out_len);
+
+/* The first stretch of RAM from a place on, outside the picture area, that is not what it was at first; from 0, where there
+ * is none, that nothing changed. Refused as 3 for a RAM whose length is not allowed or not that of first, then as 7. Value:
+ * the place after the stretch, the RAM's length where there is none. */
+uint64_t gulxinett_audit_changed(uint64_t *book, size_t book_len,
+                                 const uint8_t *first, size_t first_len,
+                                 const uint8_t *ram, size_t ram_len,
+                                 uint32_t from,
+                                 uint8_t *out, size_t out_len);
+
+/* The summary of the recording. Value: how many bytes were put into out. */
+uint64_t gulxinett_audit_summary(uint64_t *book, size_t book_len,
+                                 const uint8_t *state, size_t state_len,
+                                 uint8_t *out, size_t out_len);
+
 /* Writes the picture area of RAM bank 0 as a grey image, a Netpbm file of kind P5: 128 by 112 pixels,
  * 14,351 bytes; bytes beyond stay. The RAM is read straight: a half picture is written as it
  * stands. Refused as 3, then as 7. Value: 14351. */

@@ -1,0 +1,2 @@
+-- Laws of the exported functions of an audit.
+pub mod Audits

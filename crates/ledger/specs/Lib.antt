@@ -1,0 +1,2 @@
+-- The exported functions of an audit.
+pub mod Audits
