@@ -16,11 +16,11 @@ import time
 import unittest
 from pathlib import Path
 
-from gulxinett import FRAME_BYTES, PICTURE_OFFSET, RAM_BANK, REGISTERS, Cartridge, picture, salvage
+from gulxinett import FRAME_BYTES, PICTURE_OFFSET, RAM_BANK, REGISTERS, Audit, Cartridge, picture, salvage
 
 ROOT = Path(__file__).resolve().parents[1]
 COMMAND, BUS = Path(sys.argv[1]).resolve(), Path(sys.argv[2]).resolve()
-COMMANDS = ("play", "judge", "salvage", "picture", "plate", "place", "photo", "inspect")
+COMMANDS = ("play", "audit", "judge", "salvage", "picture", "plate", "place", "photo", "inspect")
 
 # What each refusal says, as the bindings have it.
 REFUSED_RAM = "the RAM length is not allowed"
@@ -155,6 +155,8 @@ class Help(Folder):
         self.wrong("only one of the files can be standard input", "place", "--save", "-")
         self.wrong("--registers must name the registers", "picture", "frame")
         self.wrong("a save or --registers is inspected, not both", "inspect", "--registers", "level=7", "save")
+        self.wrong("only one of the files can be standard input", "audit", "--save", "-")
+        self.wrong("only one of the files can be standard input", "audit", "-", "script", "-")
         self.wrong("--plate must name the plate", "judge", "frame")
         self.wrong("at least one frame must be named", "judge", "--plate", "plate.pgm")
         self.wrong("only one of the files can be standard input", "judge", "--plate", "-", "frame", "-")
@@ -168,7 +170,7 @@ class Help(Folder):
 
 
 class Scripts(Folder):
-    """Scripts played."""
+    """Scripts played and audited."""
 
     def job(self):
         """The recordings of two workers of one job, the first of which is stopped half way."""
@@ -208,16 +210,43 @@ class Scripts(Folder):
             self.assertEqual(player.stdout.read1(100) if due else b"", due)
         self.assertEqual((player.communicate(b"xx", timeout=60)[0], player.returncode), (b"06\n", 0))
 
+    def test_audited(self):
+        script, due = ((ROOT / "tests/data" / name).read_bytes() for name in ("audited.script", "audited.events"))
+        self.put("script", script)
+        self.gives(due, "audit", "script")
+        self.gives(due, "audit", stdin=script)
+        self.gives(due, "audit", "-", stdin=script)
+        audit = Audit()
+        self.gives("".join(audit.feed(script * 3) + audit.finish()).encode(), "audit", stdin=script * 3)
+
     def test_a_job_of_two_workers(self):
         first, second, cartridge = self.job()
+        audit = Audit()
+        due = "".join(audit.feed(first + second) + audit.finish())
+        self.assertIn("event end serial 1 cycles 45246 ", due)
+        self.assertIn(" verdict whole\n", due)
         self.assertEqual(cartridge.area(), picture(frame(1), REGISTERS_TAKEN))
-        # the area read out after the job gives the plate of the first frame
-        read = b"".join(b"01%04X\n" % (0xA000 + PICTURE_OFFSET + place) for place in range(len(cartridge.area())))
-        due = b"".join(b"00%02X\n" % byte for byte in cartridge.area())
-        script = first + second + b"02400000\n" + read
-        status, output, said = self.run_it("play", stdin=script)
-        self.assertEqual((status, said), (0, ""))
-        self.assertTrue(output.endswith(due))
+        self.put("second", second)
+        # with its last LF and without
+        for recording in (first, first[:-1]):
+            self.put("first", recording)
+            self.gives(due.encode(), "audit", "first", "second")
+            self.gives(due.encode(), "audit", "-", "second", stdin=recording)
+
+    def test_audited_over_a_battery_save(self):
+        script = b"0200000A\n02400003\n02A00701\n02A00802"
+        for banks in (1, 2, 4, 8, 16):
+            ram = bytes(banks * RAM_BANK)
+            audit = Audit(ram)
+            due = "".join(audit.feed(script) + audit.finish()).encode()
+            self.assertIn(b"event changed bank %d from 0007 to 0008\n" % (3 % banks), due)
+            self.put("save", ram)
+            self.put("script", script)
+            self.gives(due, "audit", "--save", "save", "script")
+            self.gives(due, "audit", "--save=-", "script", stdin=ram)
+        for name, file in (("empty", b""), ("three", bytes(3 * RAM_BANK)), ("own", Cartridge().save())):
+            self.put(name, file)
+            self.fails(1, name, REFUSED_RAM, "audit", "--save", name, "script", "-o", "made")
 
 
 class Judgements(Folder):
@@ -577,12 +606,13 @@ class Files(Folder):
             ["photo", "photo.ppm"],
             ["salvage", "script"],
             ["play", "script"],
+            ["audit", "script"],
         )
 
     def test_unread(self):
         self.given.add("folder")
         (self.folder / "folder").mkdir()
-        for words in (["play"], ["plate"], ["photo"], ["salvage"], ["inspect"], ["picture", "--registers", "level=7"], ["place", "--save", "save"]):
+        for words in (["play"], ["audit"], ["audit", "script"], ["plate"], ["photo"], ["salvage"], ["inspect"], ["picture", "--registers", "level=7"], ["place", "--save", "save"]):
             self.commands()
             self.fails(1, "missing", "can't be read: No such file or directory", *words, "missing")
             self.fails(1, "folder", "can't be read: Is a directory", *words, "folder")
@@ -679,15 +709,16 @@ class Files(Folder):
         return run.returncode, output, said
 
     def test_whoever_waits_is_told(self):
-        status, output, said = self.on_terminal(["play"], ((b"00\n" * 5, 1.6), (b"00\n" * 3, 0.5)))
-        self.assertEqual((status, output), self.run_it("play", stdin=b"00\n" * 8)[:2])
-        self.assertIn(b"\rgulxinett: 5 lines so far", said)
-        self.assertTrue(said.endswith(b"\r\x1b[K"), said)
-        # not for a short wait, nor where nobody looks
-        self.assertEqual(self.on_terminal(["play"], ((b"00\n", 0.3),))[2], b"")
-        run = subprocess.Popen([COMMAND, "play"], stdin=subprocess.PIPE, stdout=subprocess.PIPE, stderr=subprocess.PIPE)
-        time.sleep(1.3)
-        self.assertEqual(run.communicate(b"00\n", timeout=60)[1], b"")
+        for words in (["play"], ["audit"]):
+            status, output, said = self.on_terminal(words, ((b"00\n" * 5, 1.6), (b"00\n" * 3, 0.5)))
+            self.assertEqual((status, output), self.run_it(*words, stdin=b"00\n" * 8)[:2])
+            self.assertIn(b"\rgulxinett: 5 lines so far", said)
+            self.assertTrue(said.endswith(b"\r\x1b[K"), said)
+            # not for a short wait, nor where nobody looks
+            self.assertEqual(self.on_terminal(words, ((b"00\n", 0.3),))[2], b"")
+            run = subprocess.Popen([COMMAND, *words], stdin=subprocess.PIPE, stdout=subprocess.PIPE, stderr=subprocess.PIPE)
+            time.sleep(1.3)
+            self.assertEqual(run.communicate(b"00\n", timeout=60)[1], b"")
 
     def test_pictures_are_not_put_on_a_terminal(self):
         ours, theirs = pty.openpty()

@@ -173,9 +173,31 @@ export interface CartridgeClass {
   fromBattery(ram: Bytes, given?: { rom?: Bytes }): Cartridge;
 }
 
+/**
+ * A recording, a bus script of any length, that is played in pieces, and what is said of it: events, each a line of keys and
+ * values with its LF. docs/AUDIT.md of the repository has them. Memory does not grow with the recording.
+ */
+export interface Audit {
+  /** Plays a piece of the recording, which may end anywhere; the events of the lines that ended in it. */
+  feed(piece: Bytes): string[];
+  /**
+   * Ends the recording and gives the memory back; the events of a last line without LF, of the capture that is held, of what has
+   * changed outside the picture area, and the summary.
+   */
+  finish(): string[];
+  /** Gives the memory back of a recording that was not ended; closing twice is no error. */
+  close(): void;
+}
+
+export interface AuditClass {
+  /** Begins as the program `bus` does, with one bank of RAM full of FF, or with the RAM of a battery save. */
+  new (given?: { ram?: Bytes }): Audit;
+}
+
 /** A loaded module. Its cartridges share one memory, which grows as they need it. */
 export interface Gulxinett {
   Cartridge: CartridgeClass;
+  Audit: AuditClass;
   /** The whole picture of a frame under 54 registers taken, as RAM bank 0 gets it from offset 100h on. */
   picture(frame: Bytes, registers: Bytes): Uint8Array;
   /**

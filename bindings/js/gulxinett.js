@@ -36,6 +36,9 @@ export const SCRIPT_BYTES = 32_768;
 const UNNAMED = 0x1_0000;
 /** Bytes of the longest answer to a script line, that of a tick, with its LF. */
 const ANSWER_BYTES = 11;
+/** Numbers that are kept of a recording that is audited, eight bytes each, and room for the events of a line. */
+const BOOK_WORDS = 13;
+const EVENTS_BYTES = 512;
 
 /** Where RAM write enable, select, the two counts of captures and the registers stand in the state record. */
 const ENABLE_OFFSET = 1;
@@ -121,7 +124,7 @@ async function download(source) {
   return answer.arrayBuffer();
 }
 
-/** What is called on a module, over its memory: the class `Cartridge`, `picture`, `judge` and `salvage`. */
+/** What is called on a module, over its memory: the classes `Cartridge` and `Audit`, `picture`, `judge` and `salvage`. */
 function bound(exports) {
   const memory = new Memory(exports.memory, exports.__heap_base.value);
 
@@ -466,11 +469,87 @@ function bound(exports) {
     }
   }
 
-  return { Cartridge, picture, judge, salvage };
+  class Audit {
+    /** The pieces of memory that are this recording's; none once it has ended. */
+    #kept;
+    /** What a recording is played over. */
+    #session;
+
+    constructor({ ram } = {}) {
+      const begun = new Cartridge({ ram });
+      const parts = begun.parts();
+      begun.close();
+      this.#kept = memory.keep({
+        book: new Uint8Array(8 * BOOK_WORDS),
+        line: new Uint8Array(LINE_BYTES),
+        state: parts.state,
+        rom: filled(ROM_BANK, 0xff),
+        ram: parts.ram,
+        store: parts.store,
+        image: filled(FRAME_BYTES, 0),
+        first: parts.ram,
+        out: new Uint8Array(EVENTS_BYTES),
+      });
+      const { book, line, state, rom, ram: played, store, image } = this.#kept;
+      this.#session = [...lentBook(book), ...lent(line, state, rom, played, store, image)];
+    }
+
+    #open() {
+      if (!this.#kept) throw new Error("the recording has ended");
+      return this.#kept;
+    }
+
+    /** The events that a call has written. */
+    #said() {
+      const { book, out } = this.#kept;
+      const length = new DataView(book.bytes.buffer, book.address).getUint32(0, true);
+      return textOf(out.bytes.subarray(0, length)).match(/.*\n/g) ?? [];
+    }
+
+    /** Plays a piece of the recording, which may end anywhere; the events of the lines that ended in it. */
+    feed(piece) {
+      const { out } = this.#open();
+      return withCopies({ piece: bytesOf("the piece", piece) }, ({ piece }) => {
+        const events = [];
+        for (let place = 0; place < piece.length; ) {
+          const rest = { address: piece.address + place, length: piece.length - place };
+          place += valueOf(exports.gulxinett_audit(...this.#session, ...lent(rest, out)));
+          events.push(...this.#said());
+        }
+        return events;
+      });
+    }
+
+    /** Ends the recording and gives the memory back; what is said of its end, the summary last. */
+    finish() {
+      const { book, state, ram, first, out } = this.#open();
+      valueOf(exports.gulxinett_audit_end(...this.#session, ...lent(out)));
+      const events = this.#said();
+      for (let place = 0; place < ram.length; ) {
+        place = valueOf(exports.gulxinett_audit_changed(...lentBook(book), ...lent(first, ram), place, ...lent(out)));
+        events.push(...this.#said());
+      }
+      valueOf(exports.gulxinett_audit_summary(...lentBook(book), ...lent(state, out)));
+      events.push(...this.#said());
+      this.close();
+      return events;
+    }
+
+    /** Gives the memory back; every later call but this one is an error. */
+    close() {
+      if (this.#kept) memory.release(this.#kept);
+      this.#kept = undefined;
+    }
+  }
+
+  return { Cartridge, Audit, picture, judge, salvage };
 }
 
 /** Pieces as the functions take them: address and length of each. */
 const lent = (...pieces) => pieces.flatMap(({ address, length }) => [address, BigInt(length)]);
+
+/** A book as the functions take it: its address, and how many numbers it has. */
+const lentBook = ({ address, length }) => [address, BigInt(length / 8)];
 
 /** Bytes that are letters, digits and LF, as text. */
 const textOf = (bytes) => String.fromCharCode(...bytes);

@@ -66,6 +66,9 @@ _LINE_BYTES = 261
 _ANSWER_BYTES = 11
 # The answer to a line that is malformed, and to no other.
 _MALFORMED = b"06\n"
+# Numbers that are kept of a recording that is audited, and room for the events of a line.
+_BOOK_WORDS = 13
+_EVENTS_BYTES = 512
 
 # What each refusal number says.
 _SENTENCES = {
@@ -86,6 +89,7 @@ _SENTENCES = {
 # What each function is given: lent memory is a place and a length, a bare place has a length that is settled.
 _PLACE = ctypes.POINTER(ctypes.c_ubyte)
 _LENT = (_PLACE, ctypes.c_size_t)
+_BOOK = (ctypes.POINTER(ctypes.c_uint64), ctypes.c_size_t)
 _FUNCTIONS = {
     "reset": _LENT,
     "read": _LENT * 3 + (ctypes.c_uint16,),
@@ -109,6 +113,10 @@ _FUNCTIONS = {
     "restore": _LENT * 4,
     "judge": (_PLACE,) + _LENT + (_PLACE,) + _LENT,
     "step": _LENT * 7,
+    "audit": _BOOK + _LENT * 8,
+    "audit_end": _BOOK + _LENT * 7,
+    "audit_changed": _BOOK + _LENT * 2 + (ctypes.c_uint32,) + _LENT,
+    "audit_summary": _BOOK + _LENT * 2,
 }
 
 
@@ -618,3 +626,57 @@ class Cartridge:
 
     def __exit__(self, *_):
         self.close()
+
+
+class Audit:
+    """A recording, a bus script of any length, that is played in pieces, and what is said of it: events, each a line of
+    keys and values. docs/AUDIT.md has them. Memory does not grow with the recording.
+
+    It begins as the program `bus` does, with one bank of RAM full of FF, or with the RAM of a battery save.
+    """
+
+    def __init__(self, ram=None):
+        with Cartridge(ram=ram) as begun:
+            parts = begun.parts()
+        self._book = (ctypes.c_uint64 * _BOOK_WORDS)()
+        self._line = (ctypes.c_ubyte * _LINE_BYTES)()
+        self._out = (ctypes.c_ubyte * _EVENTS_BYTES)()
+        self._state, self._ram, self._store = (_memory("the parts", part) for part in parts)
+        self._rom, self._image = _memory("the ROM", b"\xff" * ROM_BANK), _memory("the image", bytes(FRAME_BYTES))
+        # the RAM before the first line
+        self._first = _memory("the RAM", parts.ram)
+        self._finished = False
+
+    def _played(self, name, *words):
+        """Lends a call all that a recording is played over; its value."""
+        if self._finished:
+            raise ValueError("the recording has ended")
+        session = _lent(self._state, self._rom, self._ram, self._store, self._image)
+        return _call(name, *_lent(self._book, self._line), *session, *words, *_lent(self._out))
+
+    def _said(self):
+        """The events that a call has written."""
+        return bytes(self._out[: self._book[0]]).decode("ascii").splitlines(keepends=True)
+
+    def feed(self, piece):
+        """Plays a piece of the recording, which may end anywhere; the events of the lines that ended in it, each a text
+        with its LF."""
+        piece = _memory("the piece", piece)
+        events, place = [], 0
+        while place < len(piece):
+            rest = ctypes.cast(ctypes.addressof(piece) + place, _PLACE)
+            place += self._played("audit", rest, len(piece) - place)
+            events += self._said()
+        return events
+
+    def finish(self):
+        """Ends the recording; the events of a last line without LF, of the capture that is held, of what has changed outside
+        the picture area, and the summary."""
+        self._played("audit_end")
+        self._finished = True
+        events, place = self._said(), 0
+        while place < len(self._ram):
+            place = _call("audit_changed", *_lent(self._book, self._first, self._ram), place, *_lent(self._out))
+            events += self._said()
+        _call("audit_summary", *_lent(self._book, self._state, self._out))
+        return events + self._said()

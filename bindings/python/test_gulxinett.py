@@ -14,7 +14,7 @@ from pathlib import Path
 
 import gulxinett
 from gulxinett import (
-    FRAME_BYTES, LAYOUT, PICTURE_BYTES, PICTURE_ROWS, RAM_BANK, REGISTERS, ROM_BANK, SCRIPT_BYTES, SHADES_BYTES, STATE_BYTES,
+    FRAME_BYTES, LAYOUT, PICTURE_BYTES, PICTURE_ROWS, RAM_BANK, REGISTERS, ROM_BANK, SCRIPT_BYTES, SHADES_BYTES, STATE_BYTES, Audit,
     Cartridge, Refusal, Salvaged, judge, layout_of, picture, salvage,
 )
 
@@ -225,7 +225,42 @@ class Salvage(unittest.TestCase):
                 salvage(none)
 
 
-class Steps(unittest.TestCase):
+class Audits(unittest.TestCase):
+    SCRIPT = (ROOT / "tests/data/audited.script").read_bytes()
+    EVENTS = (ROOT / "tests/data/audited.events").read_text().splitlines(keepends=True)
+
+    def test_recordings_in_pieces(self):
+        for length in (1, 2, 7, 260, 261, len(self.SCRIPT)):
+            audit, events = Audit(), []
+            for place in range(0, len(self.SCRIPT), length):
+                events += audit.feed(self.SCRIPT[place : place + length])
+            self.assertEqual(events + audit.finish(), self.EVENTS, length)
+        summary = "line 0 event summary malformed 0 refused 0 captures 0 ended 0 whole 0 touched 0 dropped 0 held 0\n"
+        self.assertEqual(Audit().finish(), ["line 0 event unchanged\n", summary])
+
+    def test_events_come_with_their_lines(self):
+        audit = Audit()
+        self.assertEqual(audit.feed(b"02400010\n02A00003"), [])
+        (event,) = audit.feed(bytearray(b"\n"))
+        self.assertTrue(event.startswith("line 2 event start serial 1 "))
+        with self.assertRaisesRegex(TypeError, "the piece must be bytes, not str"):
+            audit.feed("00")
+        audit.finish()
+        for ended in (lambda: audit.feed(b"00\n"), audit.finish):
+            with self.assertRaisesRegex(ValueError, "the recording has ended"):
+                ended()
+
+    def test_recordings_over_a_battery_save(self):
+        # RAM writing on, a byte in the last of sixteen banks, one in the first that is rewritten the same
+        audit = Audit(bytes(16 * RAM_BANK))
+        self.assertEqual(audit.feed(b"0200000A\n0240000F\n02BFFF01\n02400000\n02A00000"), [])
+        events = audit.finish()
+        self.assertEqual((events[0], len(events)), ("line 5 event changed bank F from 1FFF to 1FFF\n", 2))
+        for length in (0, RAM_BANK - 1, 3 * RAM_BANK):
+            with self.assertRaises(Refusal) as caught:
+                Audit(bytes(length))
+            self.assertEqual(caught.exception.number, 3)
+
     def test_lines_are_carried_out(self):
         cartridge = Cartridge()
         for line, answer in (

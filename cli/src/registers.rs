@@ -6,7 +6,7 @@ use std::fmt;
 
 /// How registers are named, for the help of each command that takes them.
 pub const NAMED: &str = "\
-Registers are 108 hexadecimal digits, registers 0 to 53, or a choice of the desk:
+Registers are 108 hexadecimal digits, registers 0 to 53 as 'audit' prints them, or a choice of the desk:
   set=0,level=7,dither=on,exposure=0100
 set 0 is high light, 1 low light; level 0 the lowest contrast, 7 the default, 15 the highest; dither is on or
 off; exposure up to four hexadecimal digits. What is left out is set=0, level=7, dither=on, exposure=1000. A

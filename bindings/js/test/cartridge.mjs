@@ -11,7 +11,7 @@ import { Memory } from "../memory.js";
 const { FRAME_BYTES, LAYOUT, PICTURE_BYTES, PICTURE_ROWS, PLATE_BYTES, RAM_BANK, REGISTERS, ROM_BANK, Refusal, SCRIPT_BYTES, SHADES_BYTES, STATE_BYTES, layoutOf, load } = gulxinett;
 const place = new URL("../gulxinett.wasm", import.meta.url);
 const bytes = readFileSync(place);
-const { Cartridge, judge, picture, salvage } = await load();
+const { Audit, Cartridge, judge, picture, salvage } = await load();
 
 const TOTAL = 32_958 + 16 * 0x80;
 const registers = Uint8Array.from({ length: REGISTERS }, (_, n) => (n < 6 ? [3, 0, 0, 0x80, 0, 0][n] : 0x40 + 0x20 * (n % 3) + n));
@@ -60,6 +60,9 @@ function types() {
   const body = /^export interface Cartridge \{$(.*?)^\}$/ms.exec(text)[1];
   const members = Object.getOwnPropertyNames(Cartridge.prototype).filter((name) => name !== "constructor");
   assert.deepEqual(names(/^  (?:readonly )?(\w+)[(:]/gm, body), members.sort());
+  const audit = /^export interface Audit \{$(.*?)^\}$/ms.exec(text)[1];
+  const own = Object.getOwnPropertyNames(Audit.prototype).filter((name) => name !== "constructor");
+  assert.deepEqual(names(/^  (\w+)\(/gm, audit), own.sort());
   say(`the types name the ${members.length} methods and counts and ${Object.keys(gulxinett).length} exports there are`);
 }
 
@@ -406,6 +409,34 @@ function salvages() {
   say(`${some.length + 5} scripts salvaged, one of them a recording uploaded twice; 7 that are none turned away`);
 }
 
+/** The events of a recording, in pieces of any length, and over a battery save. */
+function audits() {
+  const data = (name) => readFileSync(new URL(`../../../tests/data/${name}`, import.meta.url));
+  const [script, due] = [data("audited.script"), data("audited.events").toString()];
+  const lengths = [1, 2, 7, 260, 261, script.length];
+  for (const length of lengths) {
+    const [audit, events] = [new Audit(), []];
+    for (let place = 0; place < script.length; place += length) events.push(...audit.feed(script.subarray(place, place + length)));
+    events.push(...audit.finish());
+    assert.equal(events.join(""), due);
+    assert.ok(events.every((event) => event.indexOf("\n") === event.length - 1));
+  }
+  const audit = new Audit();
+  assert.deepEqual(audit.feed(Buffer.from("02400010\n02A00003")), []);
+  assert.match(audit.feed(Buffer.from("\n")).join(), /^line 2 event start serial 1 .*\n$/);
+  throws(TypeError, "the piece must be a Uint8Array", () => audit.feed("00"));
+  audit.close();
+  audit.close();
+  for (const work of [() => audit.feed(script), () => audit.finish()]) throws(Error, "the recording has ended", work);
+  // RAM writing on, a byte in the last of sixteen banks, one in the first that is rewritten the same
+  const banks = new Audit({ ram: new Uint8Array(16 * RAM_BANK) });
+  assert.deepEqual(banks.feed(Buffer.from("0200000A\n0240000F\n02BFFF01\n02400000\n02A00000")), []);
+  const [changed, ...more] = banks.finish();
+  assert.deepEqual([changed, more.length], ["line 5 event changed bank F from 1FFF to 1FFF\n", 1]);
+  for (const length of [0, RAM_BANK - 1, 3 * RAM_BANK]) refused(3, () => new Audit({ ram: new Uint8Array(length) }));
+  say(`a recording audited in pieces of ${lengths.join(", ")} bytes, and one over a battery save`);
+}
+
 /** Lines carried out one by one: their answers, and what a recorder has of them. */
 function steps() {
   const cartridge = new Cartridge();
@@ -518,7 +549,7 @@ async function nothingLost() {
     memory = instance.exports.memory;
     return instance;
   };
-  const { Cartridge, judge, picture, salvage } = await load();
+  const { Audit, Cartridge, judge, picture, salvage } = await load();
   WebAssembly.instantiate = instantiate;
   const save = new Cartridge().parts();
   const [good, bad] = [new Uint8Array(2 * ROM_BANK), new Uint8Array(3 * ROM_BANK)];
@@ -700,6 +731,7 @@ photographs();
 choices();
 recorder();
 salvages();
+audits();
 steps();
 judgements();
 sideBySide();

@@ -338,3 +338,104 @@ pub fn step(session: Session, line: &[u8], out: &mut [u8]) -> Answer {
         )
     })
 }
+
+/// Audits a piece of a recording up to and with its first LF, or all of it; the value is how many bytes were read.
+/// Where a line ended, its event is written, if it makes one, and `book[0]` is the event's length. `book` has
+/// 13 numbers, `line` 261 bytes, `out` at least 512, or it is refused as [`Refusal::Room`].
+pub fn audit(
+    book: &mut [u64],
+    line: &mut [u8],
+    session: Session,
+    piece: &[u8],
+    out: &mut [u8],
+) -> Answer {
+    // SAFETY: each pointer and length are those of one slice, and the mutable ones are apart.
+    Answer(unsafe {
+        ffi::gulxinett_audit(
+            book.as_mut_ptr(),
+            book.len(),
+            line.as_mut_ptr(),
+            line.len(),
+            session.state.as_mut_ptr(),
+            session.state.len(),
+            session.rom.as_ptr(),
+            session.rom.len(),
+            session.ram.as_mut_ptr(),
+            session.ram.len(),
+            session.store.as_mut_ptr(),
+            session.store.len(),
+            session.image.as_mut_ptr(),
+            session.image.len(),
+            piece.as_ptr(),
+            piece.len(),
+            out.as_mut_ptr(),
+            out.len(),
+        )
+    })
+}
+
+/// Ends the recording that is audited: writes the event of a last line without LF, and that a capture is held, where
+/// one is; the value is their length, as `book[0]` is.
+pub fn audit_end(book: &mut [u64], line: &mut [u8], session: Session, out: &mut [u8]) -> Answer {
+    // SAFETY: each pointer and length are those of one slice, and the mutable ones are apart.
+    Answer(unsafe {
+        ffi::gulxinett_audit_end(
+            book.as_mut_ptr(),
+            book.len(),
+            line.as_mut_ptr(),
+            line.len(),
+            session.state.as_mut_ptr(),
+            session.state.len(),
+            session.rom.as_ptr(),
+            session.rom.len(),
+            session.ram.as_mut_ptr(),
+            session.ram.len(),
+            session.store.as_mut_ptr(),
+            session.store.len(),
+            session.image.as_mut_ptr(),
+            session.image.len(),
+            out.as_mut_ptr(),
+            out.len(),
+        )
+    })
+}
+
+/// Writes the first stretch at or after a place of the RAM that is not as it was first, outside the picture area, as
+/// an event, or that nothing has changed; the value is the place after the stretch, `book[0]` the event's length.
+pub fn audit_changed(
+    book: &mut [u64],
+    first: &[u8],
+    ram: &[u8],
+    from: u32,
+    out: &mut [u8],
+) -> Answer {
+    // SAFETY: each pointer and length are those of one slice, and the mutable ones are apart.
+    Answer(unsafe {
+        ffi::gulxinett_audit_changed(
+            book.as_mut_ptr(),
+            book.len(),
+            first.as_ptr(),
+            first.len(),
+            ram.as_ptr(),
+            ram.len(),
+            from,
+            out.as_mut_ptr(),
+            out.len(),
+        )
+    })
+}
+
+/// Writes the summary of the recording that was audited; the value is its length, as `book[0]` is.
+pub fn audit_summary(book: &mut [u64], state: &[u8], out: &mut [u8]) -> Answer {
+    // SAFETY: each pointer and length are those of one slice, and the mutable ones are apart.
+    Answer(unsafe {
+        ffi::gulxinett_audit_summary(
+            book.as_mut_ptr(),
+            book.len(),
+            state.as_ptr(),
+            state.len(),
+            out.as_mut_ptr(),
+            out.len(),
+        )
+    })
+}

@@ -155,4 +155,65 @@ extern "C" {
         out: *mut u8,
         out_len: usize,
     ) -> u64;
+
+    pub fn gulxinett_audit(
+        book: *mut u64,
+        book_words: usize,
+        line: *mut u8,
+        line_len: usize,
+        state: *mut u8,
+        state_len: usize,
+        rom: *const u8,
+        rom_len: usize,
+        ram: *mut u8,
+        ram_len: usize,
+        store: *mut u8,
+        store_len: usize,
+        image: *mut u8,
+        image_len: usize,
+        piece: *const u8,
+        piece_len: usize,
+        out: *mut u8,
+        out_len: usize,
+    ) -> u64;
+
+    pub fn gulxinett_audit_end(
+        book: *mut u64,
+        book_words: usize,
+        line: *mut u8,
+        line_len: usize,
+        state: *mut u8,
+        state_len: usize,
+        rom: *const u8,
+        rom_len: usize,
+        ram: *mut u8,
+        ram_len: usize,
+        store: *mut u8,
+        store_len: usize,
+        image: *mut u8,
+        image_len: usize,
+        out: *mut u8,
+        out_len: usize,
+    ) -> u64;
+
+    pub fn gulxinett_audit_changed(
+        book: *mut u64,
+        book_words: usize,
+        first: *const u8,
+        first_len: usize,
+        ram: *const u8,
+        ram_len: usize,
+        from: u32,
+        out: *mut u8,
+        out_len: usize,
+    ) -> u64;
+
+    pub fn gulxinett_audit_summary(
+        book: *mut u64,
+        book_words: usize,
+        state: *const u8,
+        state_len: usize,
+        out: *mut u8,
+        out_len: usize,
+    ) -> u64;
 }

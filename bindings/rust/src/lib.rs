@@ -12,12 +12,13 @@
 //!
 //! A refused call changes neither the state nor a byte lent. The lowest refusal is given.
 //! [`Cartridge`] owns all of these and has the calls as methods.
-//! [`salvage`] cleans a bus script, and [`judge`] says which rows of a plate are a frame's. [`bytes`] has the same calls
-//! over the record's bytes, as the C functions take it.
+//! [`salvage`] cleans a bus script, [`Audit`] says what became of a recording's captures, and [`judge`] which rows of a
+//! plate are a frame's. [`bytes`] has the same calls over the record's bytes, as the C functions take it.
 
 // The modules from the bottom up, each of which uses only those named before it:
-// ffi, files, sizes, state, refusal, bytes, calls, recorder, cartridge.
+// ffi, files, sizes, state, refusal, bytes, calls, recorder, cartridge, audit.
 
+mod audit;
 pub mod bytes;
 mod calls;
 mod cartridge;
@@ -28,6 +29,7 @@ mod refusal;
 mod sizes;
 mod state;
 
+pub use audit::Audit;
 pub use calls::{
     choose, inspect, judge, picture, read, reset, salvage, tick, write, Choice, Element, Salvaged,
 };

@@ -1,5 +1,6 @@
 //! The commands, each in a module of its name.
 
+mod audit;
 mod inspect;
 mod judge;
 mod photo;
@@ -28,8 +29,9 @@ pub struct Command {
 }
 
 /// Every command, in the order in which they are told.
-pub const COMMANDS: [Command; 8] = [
+pub const COMMANDS: [Command; 9] = [
     play::COMMAND,
+    audit::COMMAND,
     judge::COMMAND,
     salvage::COMMAND,
     picture::COMMAND,

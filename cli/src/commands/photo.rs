@@ -13,7 +13,8 @@ pub const COMMAND: Command = Command {
 usage: gulxinett photo [PHOTO] [--output FILE]
 
 Writes the frame of a colour photograph: 16,384 bytes of light, 128 rows of 128, each (2R + 5G + B) / 8 of its
-pixel. PHOTO is a Netpbm file P6 of 128 by 128 pixels with largest value 255.
+pixel. PHOTO is a Netpbm file P6 of 128 by 128 pixels with largest value 255. The frame's CRC-32, as 'crc32'
+gives it, is the one that 'audit' names an image by.
 
 options:
   -o, --output FILE   where the frame goes, in place of standard output

@@ -1,12 +1,64 @@
-//! Lines of a script that are carried out one by one, and rows of a plate that are a frame's.
+//! What is said of recordings and plates: events, lines carried out one by one, and rows that are a frame's.
 
 mod common;
 
 use common::{begin, frame, registers};
 use gulxinett::{
-    bytes, judge, picture, Cartridge, Refusal, ANSWER_BYTES, FRAME_BYTES, PICTURE_BYTES,
-    PICTURE_ROWS, REGISTERS, ROM_BANK, ROW_BYTES,
+    bytes, judge, picture, Audit, Cartridge, Refusal, ANSWER_BYTES, FRAME_BYTES, LINE_BYTES,
+    PICTURE_BYTES, PICTURE_ROWS, RAM_BANK, REGISTERS, ROM_BANK, ROW_BYTES,
 };
+
+const SCRIPT: &[u8] = include_bytes!("../../../tests/data/audited.script");
+const EVENTS: &str = include_str!("../../../tests/data/audited.events");
+
+/// The events of a recording that is fed in pieces of a length.
+fn events(mut audit: Audit, script: &[u8], length: usize) -> Vec<String> {
+    let mut events = Vec::new();
+    let mut event = |event: &[u8]| events.push(String::from_utf8(event.to_vec()).unwrap());
+    script
+        .chunks(length)
+        .for_each(|piece| audit.feed(piece, &mut event));
+    audit.finish(&mut event);
+    events
+}
+
+#[test]
+fn recordings_in_pieces() {
+    let due: Vec<&str> = EVENTS.split_inclusive('\n').collect();
+    for length in [1, 2, 7, 260, 261, SCRIPT.len()] {
+        assert_eq!(events(Audit::default(), SCRIPT, length), due, "{length}");
+    }
+    let summary = "event summary malformed 0 refused 0 captures 0 ended 0 whole 0 touched 0 dropped 0 held 0\n";
+    let due = ["line 0 event unchanged\n", &format!("line 0 {summary}")];
+    assert_eq!(events(Audit::default(), b"", 1), due);
+}
+
+#[test]
+fn events_come_with_their_lines() {
+    let mut audit = Audit::default();
+    let mut count = 0;
+    audit.feed(b"02400010\n02A00003", |_| count += 1);
+    assert_eq!(count, 0);
+    audit.feed(b"\n", |event| {
+        assert!(event.starts_with(b"line 2 event start serial 1 "));
+        count += 1;
+    });
+    assert_eq!(count, 1);
+}
+
+#[test]
+fn recordings_over_a_battery_save() {
+    // RAM writing on, a byte in the last of sixteen banks, one in the first that is rewritten the same
+    let script = b"0200000A\n0240000F\n02BFFF01\n02400000\n02A00000";
+    let audit = Audit::from_battery(vec![0; 16 * RAM_BANK]).unwrap();
+    let said = events(audit, script, 5);
+    assert_eq!(said[0], "line 5 event changed bank F from 1FFF to 1FFF\n");
+    assert_eq!(said.len(), 2);
+    for length in [0, RAM_BANK - 1, 3 * RAM_BANK] {
+        let refused = Audit::from_battery(vec![0; length]).map(|_| ());
+        assert_eq!(refused, Err(Refusal::Ram));
+    }
+}
 
 /// What a script is played over.
 struct Memory {
@@ -38,6 +90,30 @@ impl Memory {
             image: &mut self.image,
         }
     }
+}
+
+#[test]
+fn audits_that_are_refused() {
+    let mut memory = Memory::new();
+    let (mut book, mut line, mut out) = ([0; 14], [0; LINE_BYTES + 1], [0xA5; 512]);
+    for (words, length, room) in [
+        (12, LINE_BYTES, 512),
+        (14, LINE_BYTES, 512),
+        (13, LINE_BYTES - 1, 512),
+        (13, LINE_BYTES + 1, 512),
+        (13, LINE_BYTES, 511),
+    ] {
+        let (book, line) = (&mut book[..words], &mut line[..length]);
+        let refused = bytes::audit(book, line, memory.lent(), b"00\n", &mut out[..room]);
+        assert_eq!(refused.result(), Err(Refusal::Room));
+        let refused = bytes::audit_end(book, line, memory.lent(), &mut out[..room]);
+        assert_eq!(refused.result(), Err(Refusal::Room));
+    }
+    memory.state[0] = 2;
+    let (book, line) = (&mut book[..13], &mut line[..LINE_BYTES]);
+    let refused = bytes::audit(book, line, memory.lent(), b"00\n", &mut out);
+    assert_eq!(refused.result(), Err(Refusal::State));
+    assert_eq!((book, out), (&mut [0; 13][..], [0xA5; 512]));
 }
 
 #[test]
