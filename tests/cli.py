@@ -211,7 +211,7 @@ class Scripts(Folder):
         self.assertEqual((player.communicate(b"xx", timeout=60)[0], player.returncode), (b"06\n", 0))
 
     def test_audited(self):
-        script, due = ((ROOT / "tests/data" / name).read_bytes() for name in ("audited.script", "audited.events"))
+        script, due = ((ROOT / "crates/audit" / name).read_bytes() for name in ("stdin", "stdout"))
         self.put("script", script)
         self.gives(due, "audit", "script")
         self.gives(due, "audit", stdin=script)

@@ -226,8 +226,8 @@ class Salvage(unittest.TestCase):
 
 
 class Audits(unittest.TestCase):
-    SCRIPT = (ROOT / "tests/data/audited.script").read_bytes()
-    EVENTS = (ROOT / "tests/data/audited.events").read_text().splitlines(keepends=True)
+    SCRIPT = (ROOT / "crates/audit/stdin").read_bytes()
+    EVENTS = (ROOT / "crates/audit/stdout").read_text().splitlines(keepends=True)
 
     def test_recordings_in_pieces(self):
         for length in (1, 2, 7, 260, 261, len(self.SCRIPT)):

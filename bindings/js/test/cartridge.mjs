@@ -411,8 +411,8 @@ function salvages() {
 
 /** The events of a recording, in pieces of any length, and over a battery save. */
 function audits() {
-  const data = (name) => readFileSync(new URL(`../../../tests/data/${name}`, import.meta.url));
-  const [script, due] = [data("audited.script"), data("audited.events").toString()];
+  const data = (name) => readFileSync(new URL(`../../../crates/audit/${name}`, import.meta.url));
+  const [script, due] = [data("stdin"), data("stdout").toString()];
   const lengths = [1, 2, 7, 260, 261, script.length];
   for (const length of lengths) {
     const [audit, events] = [new Audit(), []];

@@ -8,8 +8,8 @@ use gulxinett::{
     PICTURE_BYTES, PICTURE_ROWS, RAM_BANK, REGISTERS, ROM_BANK, ROW_BYTES,
 };
 
-const SCRIPT: &[u8] = include_bytes!("../../../tests/data/audited.script");
-const EVENTS: &str = include_str!("../../../tests/data/audited.events");
+const SCRIPT: &[u8] = include_bytes!("../../../crates/audit/stdin");
+const EVENTS: &str = include_str!("../../../crates/audit/stdout");
 
 /// The events of a recording that is fed in pieces of a length.
 fn events(mut audit: Audit, script: &[u8], length: usize) -> Vec<String> {
