@@ -9,11 +9,12 @@ use libc::STDERR_FILENO;
 use libc::STDIN_FILENO;
 use libc::STDOUT_FILENO;
 use session::session::bytes_of;
+use sweeping::lines_audited;
 ghost use Prim.Native.Nat.{_<_, _≤_};
 ghost use lib.ListN.{length};
 ghost use Rattle.io.specs.Counts.{Counts};
 
-// How much of a piece was played, and whether its event could be written.
+// How much of a piece was played, and whether its events could be written.
 struct Turn {
     used: usize,
     heard: bool,
@@ -80,6 +81,43 @@ fn play_line(
     Turn { used, heard }
 }
 
+// Whether a line has begun: bytes of it are held.
+fn has_begun(book: &[u64]) -> bool {
+    if book.len() < 2 {
+        return true;
+    }
+    book[1] != 0
+}
+
+// Plays whole lines of a piece, as many as the buffer has room for the events of, and writes these; where a line has begun before, or none ends here, one line or
+// what there is of it.
+fn play_some(
+    book: &mut [u64],
+    line: &mut [u8],
+    state: &mut [u8],
+    rom: &[u8],
+    ram: &mut [u8],
+    store: &mut [u8],
+    image: &mut [u8],
+    piece: &[u8],
+    out: &mut [u8],
+) -> Turn
+    requires { ⌜ 0 < length (now piece) ⌝ }
+    ensures { λ r. ⌜ (0 < r .used) × (r .used ≤ length (now (piece .entry))) ⌝ }
+{
+    if has_begun(book) {
+        return play_line(book, line, state, rom, ram, store, image, piece, out);
+    }
+    let swept = lines_audited(book, state, rom, ram, store, image, piece, out);
+    if swept.used == 0 {
+        return play_line(book, line, state, rom, ram, store, image, piece, out);
+    }
+    let used = swept.used;
+    let n = within(swept.written, out);
+    let heard = io::write_all(STDOUT_FILENO, &out[..n]);
+    Turn { used, heard }
+}
+
 // Plays a piece: every event is written before it returns. It answers whether they could be.
 fn play(
     book: &mut [u64],
@@ -96,7 +134,7 @@ fn play(
 {
     let mut at = 0;
     while at < piece.len() {
-        let turn = play_line(book, line, state, rom, ram, store, image, &piece[at..], out);
+        let turn = play_some(book, line, state, rom, ram, store, image, &piece[at..], out);
         let used = turn.used;
         if !turn.heard {
             return false;

@@ -27,7 +27,7 @@ use Rattle.audited.proofs.Alike.{Alike, alike-then, alike-first, SameSa
 
 -- ---- lines, and bytes without LF
 
-noEnd : List ℕ → Bool
+unfoldable pub noEnd : List ℕ → Bool
 noEnd [] = true
 noEnd (b ∷ rest) = not (eqb b 0x0A) && noEnd rest
 
@@ -46,7 +46,7 @@ line-no [] = refl
 line-no (b ∷ rest) = either (eqb b 0x0A) (λ e. rw e) (λ e. rw e (rw (e, line-no rest)))
 
 -- a line that an LF ends
-ended-line : (l t : List ℕ) → noEnd l ≡ true → linesOf (l ++ (0x0A ∷ t)) ≡ l ∷ linesOf t
+pub ended-line : (l t : List ℕ) → noEnd l ≡ true → linesOf (l ++ (0x0A ∷ t)) ≡ l ∷ linesOf t
 unfolding linesOf
 ended-line [] t h = refl
 ended-line (b ∷ l) t h = let f = first-no b l h in rw (f .0, ended-line l t (f .1))

@@ -16,17 +16,17 @@ abbrev μ-loop : tie.MeasureT-loop
 loop-holds : tie.Need-loop-holds Inv-loop μ-loop
 loop-holds c = omega arith
 
-sub-play-line : tie.Need-sub-play-line Inv-loop μ-loop
-sub-play-line c = omega arith
+sub-play-some : tie.Need-sub-play-some Inv-loop μ-loop
+sub-play-some c = omega arith
 
-part-play-line-start : tie.Need-part-play-line-start Inv-loop μ-loop
-part-play-line-start c = omega arith
+part-play-some-start : tie.Need-part-play-some-start Inv-loop μ-loop
+part-play-some-start c = omega arith
 
-part-play-line-end : tie.Need-part-play-line-end Inv-loop μ-loop
-part-play-line-end c = omega arith
+part-play-some-end : tie.Need-part-play-some-end Inv-loop μ-loop
+part-play-some-end c = omega arith
 
-play-line-requires : tie.Need-play-line-requires Inv-loop μ-loop
-play-line-requires c κs = search needs
+play-some-requires : tie.Need-play-some-requires Inv-loop μ-loop
+play-some-requires c κs = search needs
 
 same-length : tie.Need-same-length Inv-loop μ-loop
 same-length c = omega arith
@@ -92,10 +92,10 @@ play-spec =
     Inv-loop
     μ-loop
     loop-holds
-    sub-play-line
-    part-play-line-start
-    part-play-line-end
-    play-line-requires
+    sub-play-some
+    part-play-some-start
+    part-play-some-end
+    play-some-requires
     same-length
     same-length-2
     same-length-3

@@ -1,0 +1,2 @@
+-- What holds while whole lines are played.
+pub mod Turns

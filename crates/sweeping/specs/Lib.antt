@@ -1,0 +1,2 @@
+-- What whole lines of a recording leave.
+pub mod Aside
