@@ -312,7 +312,7 @@ class Fleet:
         """A worker that nobody kills, until no job waits."""
         kind, seed, _, _ = self.fate()
         _, code = self.live(kind, seed, "", None)
-        if code != 0:
+        if code != 0 and not self.wrong:
             self.wrong.append("a worker in %s that nobody killed ended with %d" % (kind, code))
 
     def audits(self):
@@ -331,7 +331,7 @@ class Fleet:
     def last_audits(self):
         """An auditor that nobody kills, until every plate has its answers."""
         _, code = self.live("auditor", 0, "", None)
-        if code != 0:
+        if code != 0 and not self.wrong:
             self.wrong.append("an auditor that nobody killed ended with %d" % code)
 
     @contextlib.contextmanager
