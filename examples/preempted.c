@@ -5,7 +5,7 @@
  *
  * The finished picture must be the one of the first image under the first registers.
  */
-#define _POSIX_C_SOURCE 200809L
+#define _XOPEN_SOURCE 700
 #include "gulxinett.h"
 #include "whole.h"
 

@@ -1,6 +1,6 @@
 /* Writes two saves to one file in turns, over and over, until it is killed; tests/saves does that.
  * usage: saves FILE ONE OTHER: the two are written to ONE and OTHER first */
-#define _POSIX_C_SOURCE 200809L
+#define _XOPEN_SOURCE 700
 #include "../examples/whole.h"
 
 #include <gulxinett.h>

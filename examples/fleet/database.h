@@ -64,9 +64,9 @@ uint32_t database_waiting(void);
     "SELECT " SPECIMEN " FROM gulxinett_job WHERE id <> " P(1)                                                         \
     " AND id = 1 + (" P(2) " % (SELECT max(id) FROM gulxinett_job))"
 #define KEEP                                                                                                           \
-    "UPDATE gulxinett_job SET save = " P(1) ", recording = recording || " P(2) ", cycles = cycles + " P(3)             \
-    ", started = " P(4) ", ended = " P(5) ", outside = " P(6) ", pieces = pieces + 1, hands = hands || 'c', plate = " P(7) \
-    ", status = " P(8) " WHERE id = " P(9)
+    "UPDATE gulxinett_job SET save = " P(1) ", cycles = cycles + " P(2) ", started = " P(3) ", ended = " P(4)          \
+    ", outside = " P(5) ", pieces = pieces + 1, hands = hands || 'c', plate = " P(6) ", status = " P(7) " WHERE id = " P(8)
+#define RECORD "INSERT INTO gulxinett_recording (job, piece, lines) VALUES (" P(1) ", " P(2) ", " P(3) ")"
 #define ASIDE "UPDATE gulxinett_job SET status = 'aside', reason = " P(1) " WHERE id = " P(2)
 #define WAITING "SELECT count(*) FROM gulxinett_job WHERE status = 'waiting'"
 

@@ -1,8 +1,8 @@
-"""The jobs of a fleet, in PostgreSQL or in SQLite: one table, and the few statements that workers make.
+"""The jobs of a fleet, in PostgreSQL or in SQLite: two tables, and the few statements that workers and auditors make.
 
 A URL is postgresql://.. as libpq has them, or sqlite:FILE. A piece of work is one transaction: `take` opens it and locks
 the job, `keep` or `set_aside` writes the job, `commit` ends it. A worker that is killed anywhere in between leaves the job
-as it was before `take`.
+and its recording as they were before `take`. So is an audit: `take_plate`, `answer`, `commit`.
 """
 
 from typing import NamedTuple
@@ -23,10 +23,9 @@ CREATE TABLE gulxinett_job (
     a000 integer NOT NULL,
     a001 integer NOT NULL,
     a004 integer NOT NULL,
-    -- the save before any work, the save now, and every call since as a bus script
+    -- the save before any work, and the save now
     first BYTES NOT NULL,
     save BYTES NOT NULL,
-    recording text NOT NULL DEFAULT '',
     -- the finished picture (Netpbm P5)
     plate BYTES,
     -- what the worker was answered: running cycles, counts of captures, bytes outside the picture area that differ from first
@@ -37,11 +36,22 @@ CREATE TABLE gulxinett_job (
     -- saves committed, and a letter for the kind of worker of each
     pieces integer NOT NULL DEFAULT 0,
     hands text NOT NULL DEFAULT '',
-    -- what the audit answers of the recording; see audit.py
+    -- what the audit answers of the recording, once the plate is there: its events, a line each; see audit.py
     audit text
 )
 """
+# What each piece did, as the lines of a bus script: the pieces of a job in order are its recording. A table of its own, so
+# that a piece writes its own lines alone and not those before it again.
+RECORDING = """
+CREATE TABLE gulxinett_recording (
+    job integer NOT NULL REFERENCES gulxinett_job (id),
+    piece integer NOT NULL,
+    lines text NOT NULL,
+    PRIMARY KEY (job, piece)
+)
+"""
 INDEX = "CREATE INDEX gulxinett_waiting ON gulxinett_job (pieces, id) WHERE status = 'waiting'"
+UNAUDITED = "CREATE INDEX gulxinett_unaudited ON gulxinett_job (id) WHERE status = 'done' AND audit IS NULL"
 
 SPECIMEN = "photograph, light, level, plain, exposure, a000, a001, a004"
 TAKE = "SELECT id, pieces, first, save, %s FROM gulxinett_job WHERE status = 'waiting' ORDER BY pieces, id LIMIT 1" % SPECIMEN
@@ -50,11 +60,16 @@ OTHER = (
 )
 STORE = "SELECT save FROM gulxinett_job WHERE id = 1 + (? % (SELECT max(id) FROM gulxinett_job))"
 KEEP = (
-    "UPDATE gulxinett_job SET save = ?, recording = recording || ?, cycles = cycles + ?, started = ?, ended = ?,"
+    "UPDATE gulxinett_job SET save = ?, cycles = cycles + ?, started = ?, ended = ?,"
     " outside = ?, pieces = pieces + 1, hands = hands || ?, plate = ?, status = ? WHERE id = ?"
 )
+RECORD = "INSERT INTO gulxinett_recording (job, piece, lines) VALUES (?, ?, ?)"
 ASIDE = "UPDATE gulxinett_job SET status = 'aside', reason = ? WHERE id = ?"
 WAITING = "SELECT count(*) FROM gulxinett_job WHERE status = 'waiting'"
+TAKE_PLATE = "SELECT id, first FROM gulxinett_job WHERE status = 'done' AND audit IS NULL ORDER BY id LIMIT 1"
+RECORDED = "SELECT lines FROM gulxinett_recording WHERE job = ? ORDER BY piece"
+ANSWER = "UPDATE gulxinett_job SET audit = ? WHERE id = ?"
+UNANSWERED = "SELECT count(*) FROM gulxinett_job WHERE status = 'done' AND audit IS NULL"
 
 
 class Specimen(NamedTuple):
@@ -100,8 +115,8 @@ class Sqlite:
         return self.run(statement, *words)
 
     def create(self):
-        self.run(TABLE.replace("BYTES", "blob"))
-        self.run(INDEX)
+        for statement in TABLE, RECORDING, INDEX, UNAUDITED:
+            self.run(statement.replace("BYTES", "blob"))
 
     def begin(self):
         self.run("BEGIN IMMEDIATE")
@@ -112,7 +127,9 @@ class Sqlite:
     def rollback(self):
         self.run("ROLLBACK")
 
-    take_statement = TAKE
+    lock = ""
+    # how many bytes a column's value takes
+    taken_by = "length"
 
 
 class Postgres:
@@ -138,8 +155,8 @@ class Postgres:
         return rows
 
     def create(self):
-        self.run(TABLE.replace("BYTES", "bytea"))
-        self.run(INDEX)
+        for statement in TABLE, RECORDING, INDEX, UNAUDITED:
+            self.run(statement.replace("BYTES", "bytea"))
         self.commit()
 
     def begin(self):
@@ -151,7 +168,9 @@ class Postgres:
     def rollback(self):
         self.connection.rollback()
 
-    take_statement = TAKE + " FOR UPDATE SKIP LOCKED"
+    lock = " FOR UPDATE SKIP LOCKED"
+    # how many bytes a column's value takes, as the server has compressed it
+    taken_by = "pg_column_size"
 
 
 def connect(url):
@@ -163,13 +182,21 @@ def connect(url):
 
 def take(database):
     """Opens a transaction and takes a job that no other worker has; None if there is none, and then no transaction is open."""
-    database.begin()
-    rows = database.run(database.take_statement)
-    if not rows:
-        database.rollback()
+    row = locked(database, TAKE)
+    if row is None:
         return None
-    id, pieces, first, save, *specimen = rows[0]
+    id, pieces, first, save, *specimen = row
     return Job(id, pieces, first, save, Specimen(*specimen))
+
+
+def locked(database, statement):
+    """Opens a transaction and locks the row of a statement that nobody else has; None if there is none."""
+    database.begin()
+    rows = database.run(statement + database.lock)
+    if rows:
+        return rows[0]
+    database.rollback()
+    return None
 
 
 def other_specimen(database, job):
@@ -181,7 +208,8 @@ def other_specimen(database, job):
 def keep(database, job, save, recording, cycles, started, ended, outside, hand, plate):
     """Writes what a piece of work left: the save, and all that is said of it, at once."""
     status = "waiting" if plate is None else "done"
-    database.run(KEEP, save, recording, cycles, started, ended, outside, hand, plate, status, job.id)
+    database.run(KEEP, save, cycles, started, ended, outside, hand, plate, status, job.id)
+    database.run(RECORD, job.id, job.pieces + 1, recording)
 
 
 def set_aside(database, job, reason):
@@ -192,3 +220,28 @@ def set_aside(database, job, reason):
 def waiting(database):
     """How many jobs are not done and not set aside."""
     return database.look(WAITING)[0][0]
+
+
+def recorded(database, id):
+    """The pieces of a job's recording, in order."""
+    return [lines for (lines,) in database.run(RECORDED, id)]
+
+
+def most(database):
+    """The highest number of a job."""
+    return database.run("SELECT max(id) FROM gulxinett_job")[0][0]
+
+
+def take_plate(database):
+    """Opens a transaction and takes a plate that nobody has audited: its job's number and first save; None if there is none."""
+    return locked(database, TAKE_PLATE)
+
+
+def answer(database, id, events):
+    """Writes what the audit says of a job's recording."""
+    database.run(ANSWER, events, id)
+
+
+def unanswered(database):
+    """How many plates have no answers yet."""
+    return database.look(UNANSWERED)[0][0]

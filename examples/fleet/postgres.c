@@ -9,7 +9,7 @@
 #define P(n) "$" #n
 
 /* The most words that a statement is given. */
-enum { WORDS = 9 };
+enum { WORDS = 8 };
 
 static PGconn *server;
 /* The rows that the job and the other specimen lie in. */
@@ -122,9 +122,8 @@ int database_other(const struct job *job, struct specimen *other)
 
 void database_keep(const struct job *job, const struct piece *piece)
 {
-    struct words words = {.count = 0};
+    struct words words = {.count = 0}, lines = {.count = 0};
     blob(&words, piece->save);
-    blob(&words, piece->recording);
     number(&words, piece->cycles);
     number(&words, piece->started);
     number(&words, piece->ended);
@@ -133,6 +132,10 @@ void database_keep(const struct job *job, const struct piece *piece)
     text(&words, piece->plate.at ? "done" : "waiting");
     number(&words, job->id);
     plainly(KEEP, &words);
+    number(&lines, job->id);
+    number(&lines, job->pieces + 1);
+    blob(&lines, piece->recording);
+    plainly(RECORD, &lines);
 }
 
 void database_aside(const struct job *job, const char *reason)

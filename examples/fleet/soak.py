@@ -1,11 +1,11 @@
-"""Kills the workers of a fleet again and again, lets the rest finish, and looks at every plate.
+"""Kills the workers of a fleet again and again, lets the rest finish, and looks at every plate and at its audit.
 
 usage: python3 soak.py --workers-in FOLDER [--jobs N] [--kills N] [--damages N] [--database URL] [--seed N] [--workers N]
                        [--kinds python,c] [--break HOW] [--keep]
 
 ../../soak builds what this needs, and calls it. By the seed come the jobs with their photographs, choices and albums, the
-damages, and for each worker in turn its kind, its pieces and where or when it is killed; which job it has then is the
-machine's timing.
+damages, and for each worker and auditor in turn its kind, its pieces and where or when it is killed; which job it has then
+is the machine's timing.
 """
 
 import argparse
@@ -32,13 +32,17 @@ ROOT = HERE.parents[1]
 sys.path[:0] = [str(ROOT / "bindings" / "python"), str(HERE)]
 import audit
 import database as jobs
-from gulxinett import FRAME_BYTES, LAYOUT, PICTURE_BYTES, PICTURE_OFFSET, RAM_BANK, Cartridge
+from gulxinett import FRAME_BYTES, LAYOUT, PICTURE_BYTES, PICTURE_OFFSET, RAM_BANK, REGISTERS, Cartridge
 from worker import start
 
 BUS = ROOT / "target" / "native" / "bus"
+# The kinds of workers that are in Python.
+PROGRAMS = {"python": "worker.py", "auditor": "audit.py"}
 # How often in a row a worker may be silent for how many seconds before it counts as hung; when the whole soak is stopped and
 # goes on later, that is one such time.
 SILENCES, SILENCE = 6, 30
+# Settings of our own server: workers are killed here and not the machine, so the disk need not be waited for.
+UNFLUSHED = ("-c", "fsync=off", "-c", "full_page_writes=off")
 # A worker that is killed at a random moment is killed within this time of taking its first job, in seconds.
 SOON = 0.04
 # Jobs that are damaged at a time.
@@ -51,8 +55,10 @@ MOMENTS = {
     b"c": "between two pieces",
     b"a": "between two pieces",
 }
+# What the summary of a plate's audit says: no line that was refused, and one capture, which ended whole.
+SUMMARY = dict(malformed="0", refused="0", captures="1", ended="1", whole="1", touched="0", dropped="0", held="0")
 # What --break tries: each spoils one thing that is told in the end.
-BREAKS = ("mixed", "cycles", "outside", "lost", "dies")
+BREAKS = ("mixed", "cycles", "outside", "touched", "audit", "lost", "dies")
 
 
 def say(text):
@@ -161,7 +167,7 @@ def own_server(folder):
     if made.returncode != 0:
         raise Failure("initdb failed: " + (folder / "server.log").read_text()[-500:])
     server = subprocess.Popen(
-        [programs / "postgres", "-D", data, "-k", place, "-c", "listen_addresses=", "-c", "max_wal_size=256MB"],
+        [programs / "postgres", "-D", data, "-k", place, "-c", "listen_addresses=", "-c", "max_wal_size=1GB", *UNFLUSHED],
         env=environment, cwd="/", stdin=subprocess.DEVNULL, stdout=log, stderr=log, start_new_session=True,
         preexec_fn=stops_with_parent, **who,
     )
@@ -199,9 +205,12 @@ def own_server(folder):
 class Fleet:
     """Workers that are started, killed and counted; each slot has one at a time."""
 
-    def __init__(self, options, url, folder, chance):
-        self.options, self.url, self.folder, self.chance = options, url, folder, chance
+    def __init__(self, options, url, folder, chance, of_auditors):
+        self.options, self.url, self.folder, self.chance, self.of_auditors = options, url, folder, chance, of_auditors
         self.lock = threading.Lock()
+        self.finished = threading.Event()
+        self.auditors_killed = 0
+        self.began = time.monotonic()
         self.wrong = []
         self.kills_due = options.kills
         self.kills = 0
@@ -210,9 +219,9 @@ class Fleet:
 
     def words(self, kind, seed, die):
         """The command of a worker."""
-        if kind == "python":
+        if kind in PROGRAMS:
             # -S: it needs nothing that is installed but what PYTHONPATH names
-            command = [sys.executable, "-S", str(HERE / "worker.py"), self.url, str(seed)]
+            command = [sys.executable, "-S", str(HERE / PROGRAMS[kind]), self.url, str(seed)]
             command += ["--break", self.options.broken] if self.options.broken else []
         else:
             name = "worker-sqlite" if self.url.startswith("sqlite:") else "worker-postgres"
@@ -225,7 +234,7 @@ class Fleet:
             kind = self.chance.choice(self.options.kinds)
             seed = self.chance.randrange(1 << 32)
             how = self.chance.random()
-            point = "take" if how < 0.1 else "tick" if how < 0.3 else "save" if how < 0.5 else ""
+            point = "take" if how < 0.1 else "tick" if how < 0.3 else "save" if how < 0.5 else "commit" if how < 0.55 else ""
             if point:
                 return kind, seed, "%s:%d" % (point, self.chance.randrange(1, 5)), None
             return kind, seed, "", self.chance.random() * SOON
@@ -236,6 +245,9 @@ class Fleet:
             worker = subprocess.Popen(self.words(kind, seed, die), stdin=subprocess.DEVNULL, stdout=subprocess.PIPE, stderr=log)
         told, out, kill_at, silent = b"", worker.stdout.fileno(), None, 0
         while True:
+            if self.wrong:
+                # the soak has failed, so nothing need be waited for
+                worker.kill()
             wait = SILENCE if kill_at is None else max(0, kill_at - time.monotonic())
             ready = select.select([out], [], [], wait)[0]
             if kill_at is not None and time.monotonic() >= kill_at:
@@ -275,6 +287,8 @@ class Fleet:
                         self.kills += 1
                         self.by_kind[kind] += 1
                         self.moments[MOMENTS[told[-1:]]] += 1
+                        if self.kills % 1_000 == 0:
+                            say("%d kills so far, %.0f seconds" % (self.kills, time.monotonic() - self.began))
                     elif code in (0, -signal.SIGKILL):
                         self.kills_due += 1
                         more_jobs()
@@ -298,8 +312,41 @@ class Fleet:
         """A worker that nobody kills, until no job waits."""
         kind, seed, _, _ = self.fate()
         _, code = self.live(kind, seed, "", None)
-        if code != 0:
+        if code != 0 and not self.wrong:
             self.wrong.append("a worker in %s that nobody killed ended with %d" % (kind, code))
+
+    def audits(self):
+        """One auditor after the other beside the workers, until these have finished; each is killed at a point."""
+        while not self.wrong and not self.finished.is_set():
+            point = self.of_auditors.choice(("take", "tick", "save", "commit"))
+            _, code = self.live("auditor", 0, "%s:%d" % (point, self.of_auditors.randrange(1, 30)), None)
+            if code == 0:
+                # there was nothing to audit
+                self.finished.wait(0.5)
+            elif code == -signal.SIGKILL:
+                self.auditors_killed += 1
+            else:
+                self.wrong.append("an auditor ended by itself with %d" % code)
+
+    def last_audits(self):
+        """An auditor that nobody kills, until every plate has its answers."""
+        _, code = self.live("auditor", 0, "", None)
+        if code != 0 and not self.wrong:
+            self.wrong.append("an auditor that nobody killed ended with %d" % code)
+
+    @contextlib.contextmanager
+    def audited(self):
+        """Auditors beside whatever is done meanwhile."""
+        auditors = threading.Thread(target=self.audits)
+        auditors.start()
+        try:
+            yield
+        except BaseException:
+            self.wrong.append("the soak was ended")
+            raise
+        finally:
+            self.finished.set()
+            auditors.join()
 
 
 # ---- what came of it
@@ -314,6 +361,36 @@ def afresh(own, first):
     total = 32_446 + (0 if own.a001 & 0x80 else 512) + 16 * own.exposure
     album[PICTURE_OFFSET : PICTURE_OFFSET + PICTURE_BYTES] = cartridge.picture()
     return bytes(album), total
+
+
+def light(photograph):
+    """The frame of a photograph: (2R + 5G + B) / 8 of each pixel."""
+    colours = photograph[-3 * FRAME_BYTES :]
+    return bytes((2 * r + 5 * g + b) // 8 for r, g, b in zip(colours[::3], colours[1::3], colours[2::3]))
+
+
+def taken(own):
+    """The registers that a start with a job's own choice takes, as an audit has them."""
+    cartridge = Cartridge()
+    start(cartridge, own)
+    return cartridge.parts().state[-REGISTERS:].hex().upper()
+
+
+def told_otherwise(answers, own, total, plate):
+    """In what the answers of an audit differ from what a plate must be: of its own frame, under its own registers, with its total
+    cycles, whole, and nothing else changed."""
+    events = audit.events_of(answers or "")
+    (begun, *more), (ended, *_), (summary, *_) = (events.get(event) or [{}] for event in ("start", "end", "summary"))
+    found = {
+        "frame": begun.get("image") == "%08X" % zlib.crc32(light(own.photograph)) and not more,
+        "registers": begun.get("registers") == taken(own),
+        "cycles": ended.get("cycles") == str(total),
+        "plate": ended.get("plate") == "%08X" % zlib.crc32(plate),
+        "verdict": ended.get("verdict") == "whole",
+        "outside": "unchanged" in events and "changed" not in events,
+        "summary": {key: summary.get(key) for key in SUMMARY} == SUMMARY,
+    }
+    return [what for what, same in found.items() if not same]
 
 
 def played(recording):
@@ -333,18 +410,22 @@ def without(ram, area):
 def judged(database):
     """Looks at every job: a count for each thing that is told."""
     count, plates = Counter(), set()
-    column = "status, first, save, plate, recording, cycles, started, ended, outside, pieces, hands, " + jobs.SPECIMEN
+    column = "status, first, save, plate, audit, cycles, started, ended, outside, pieces, hands, " + jobs.SPECIMEN
     for (id,) in database.look("SELECT id FROM gulxinett_job ORDER BY id"):
         row = database.look("SELECT %s FROM gulxinett_job WHERE id = ?" % column, id)[0]
-        status, first, save, plate, recording, cycles, started, ended, outside, pieces, hands, *own = row
+        status, first, save, plate, answers, cycles, started, ended, outside, pieces, hands, *own = row
+        own, lines = jobs.Specimen(*own), [text for (text,) in database.look(jobs.RECORDED, id)]
+        recording = "".join(lines)
         count["jobs"] += 1
         count["saves"] += pieces
+        count["recorded"] += len(recording)
+        count["longest"] = max(count["longest"], len(recording))
         count["both kinds"] += len(set(hands)) > 1
         count["other kind"] += hands[:1] != hands[-1:]
         if status != "done":
             count["lost"] += 1
             continue
-        wanted, total = afresh(jobs.Specimen(*own), first)
+        wanted, total = afresh(own, first)
         cartridge = Cartridge.restore(save)
         ram, same = cartridge.battery(), Cartridge.from_battery(wanted).plate()
         area = slice(PICTURE_OFFSET, PICTURE_OFFSET + PICTURE_BYTES)
@@ -352,12 +433,14 @@ def judged(database):
         plates.add(zlib.crc32(plate))
         count["outside"] += max(outside, sum(a != b for a, b in zip(without(ram, area), without(wanted, area))))
         count["exact" if cycles == total and (started, ended) == (1, 1) else "inexact"] += 1
-        answers = audit.answers(recording)
-        if answers is not None:
-            database.run("UPDATE gulxinett_job SET audit = ? WHERE id = ?", answers, id)
-            database.commit()
-        count["played" if played(recording) == (cycles, ram[area]) else "not played"] += 1
+        same_again = len(lines) == pieces and played(recording) == (cycles, ram[area])
+        count["played" if same_again else "not played"] += 1
+        otherwise = told_otherwise(answers, own, total, plate)
+        count["audited" if not otherwise else "otherwise"] += 1
+        count.update("audit: " + what for what in otherwise)
     count["different"] = len(plates)
+    kept = "SELECT coalesce(sum(%s(lines)), 0) FROM gulxinett_recording" % database.taken_by
+    count["kept"] = int(database.look(kept)[0][0])
     return count
 
 
@@ -403,6 +486,7 @@ def damage(fleet, database, chance, scenes, count):
     kinds = Counter()
     saves = half_done(chance, scenes)
     database.begin()
+    database.run("DELETE FROM gulxinett_recording")
     database.run("DELETE FROM gulxinett_job")
     database.commit()
     add_jobs(database, chance, scenes, 1, min(ROUND, count))
@@ -448,9 +532,10 @@ def soak(options, url, folder):
     try:
         database.create()
     except Exception as reason:
-        raise Failure("the table gulxinett_job can't be made: %s" % reason) from None
-    # the jobs, the workers and the damages each have a chance of their own, so that one does not move the others
-    of_jobs, of_workers, of_damages = (random.Random("%d %s" % (options.seed, what)) for what in ("jobs", "workers", "damages"))
+        raise Failure("the tables gulxinett_job and gulxinett_recording can't be made: %s" % reason) from None
+    # each has a chance of its own, so that one does not move the others
+    kinds = ("jobs", "workers", "auditors", "damages")
+    of_jobs, of_workers, of_auditors, of_damages = (random.Random("%d %s" % (options.seed, what)) for what in kinds)
     add_jobs(database, of_jobs, scenes, 1, options.jobs)
     total = options.jobs
 
@@ -466,18 +551,20 @@ def soak(options, url, folder):
             total += max(4, options.jobs // 8)
         other.connection.close()
 
-    fleet = Fleet(options, url, folder, of_workers)
-    began, used = time.monotonic(), processor_seconds()
-    fleet.run(fleet.slot, more_jobs)
-    killed = time.monotonic()
-    fleet.run(fleet.unkilled)
+    fleet = Fleet(options, url, folder, of_workers, of_auditors)
+    used = processor_seconds()
+    with fleet.audited():
+        fleet.run(fleet.slot, more_jobs)
+        killed = time.monotonic()
+        fleet.run(fleet.unkilled)
+    fleet.run(fleet.last_audits)
     finished = time.monotonic()
     used = processor_seconds() - used
     count = judged(database)
     say("jobs: %d, kills: %d, saves: %d" % (count["jobs"], fleet.kills, count["saves"]))
     say("%.1f seconds with kills, %.1f to finish what was left, %.1f to look at every job; %d workers at a time, seed %d" % (
-        killed - began, finished - killed, time.monotonic() - finished, options.workers, options.seed))
-    say("processor seconds of the workers: %.1f" % used)
+        killed - fleet.began, finished - killed, time.monotonic() - finished, options.workers, options.seed))
+    say("processor seconds of the workers and auditors: %.1f" % used)
     say("kills of workers in " + ", ".join("%s: %d" % (kind, fleet.by_kind[kind]) for kind in dict.fromkeys(options.kinds)))
     for moment in dict.fromkeys(MOMENTS.values()):
         say("kills %s: %d" % (moment, fleet.moments[moment]))
@@ -492,7 +579,13 @@ def soak(options, url, folder):
     say("jobs lost: %d" % count["lost"])
     say("recordings that the program plays to the same cycles and plate: %d" % count["played"])
     say("recordings that it does not: %d" % count["not played"])
-    must_be_none = ("mixed", "inexact", "outside", "lost", "not played")
+    say("bytes of the recordings: %d, of the longest %d; as the database keeps them: %d" % (
+        count["recorded"], count["longest"], count["kept"]))
+    say("audits that answer the plate's own frame, registers and cycles, whole, nothing else changed: %d; auditors killed: %d" % (
+        count["audited"], fleet.auditors_killed))
+    wrong = ["%s: %d" % (key[len("audit: ") :], count[key]) for key in sorted(count) if key.startswith("audit: ")]
+    say("audits that do not: %d%s" % (count["otherwise"], " (%s)" % ", ".join(wrong) if wrong else ""))
+    must_be_none = ("mixed", "inexact", "outside", "lost", "not played", "otherwise")
     good = not any(count[what] for what in must_be_none) and fleet.kills == options.kills and count["own"] == count["jobs"]
     if options.damages and good:
         began = time.monotonic()
@@ -503,6 +596,7 @@ def soak(options, url, folder):
         say("damages: " + ", ".join("%s: %d" % pair for pair in sorted(kinds.items())))
     if not options.keep:
         database.begin()
+        database.run("DROP TABLE gulxinett_recording")
         database.run("DROP TABLE gulxinett_job")
         database.commit()
     database.connection.close()
@@ -523,9 +617,9 @@ def read_words(words):
         "--kinds", default="python,c", help="python, c or both with a comma; one named twice is taken twice as often"
     )
     reader.add_argument(
-        "--break", dest="broken", choices=BREAKS, help="spoil the workers in Python, to see that the soak sees it"
+        "--break", dest="broken", choices=BREAKS, help="spoil the workers in Python or the auditors, to see that the soak sees it"
     )
-    reader.add_argument("--keep", action="store_true", help="leave the table in the database")
+    reader.add_argument("--keep", action="store_true", help="leave the tables in the database")
     reader.add_argument("--workers-in", help=argparse.SUPPRESS)
     options = reader.parse_args(words)
     options.kinds = options.kinds.split(",")

@@ -7,7 +7,7 @@
 #define P(n) "?"
 
 static sqlite3 *file;
-static sqlite3_stmt *take, *other_one, *keep, *aside, *waiting;
+static sqlite3_stmt *take, *other_one, *keep, *lines, *aside, *waiting;
 
 /* Ends the worker unless SQLite answered one of two numbers. */
 static int ensure(int answer, int wanted, int also)
@@ -83,6 +83,7 @@ void database_open(const char *url)
     take = prepared(TAKE);
     other_one = prepared(OTHER);
     keep = prepared(KEEP);
+    lines = prepared(RECORD);
     aside = prepared(ASIDE);
     waiting = prepared(WAITING);
 }
@@ -117,15 +118,18 @@ void database_keep(const struct job *job, const struct piece *piece)
 {
     const char *status = piece->plate.at ? "done" : "waiting";
     blob(keep, 1, piece->save);
-    text(keep, 2, (const char *)piece->recording.at, piece->recording.length);
-    number(keep, 3, piece->cycles);
-    number(keep, 4, piece->started);
-    number(keep, 5, piece->ended);
-    number(keep, 6, piece->outside);
-    blob(keep, 7, piece->plate);
-    text(keep, 8, status, strlen(status));
-    number(keep, 9, job->id);
+    number(keep, 2, piece->cycles);
+    number(keep, 3, piece->started);
+    number(keep, 4, piece->ended);
+    number(keep, 5, piece->outside);
+    blob(keep, 6, piece->plate);
+    text(keep, 7, status, strlen(status));
+    number(keep, 8, job->id);
     done(keep);
+    number(lines, 1, job->id);
+    number(lines, 2, job->pieces + 1);
+    text(lines, 3, (const char *)piece->recording.at, piece->recording.length);
+    done(lines);
 }
 
 void database_aside(const struct job *job, const char *reason)

@@ -5,7 +5,7 @@
  *
  * It tells by one byte each on standard output what it has just done: t took a job, k ticked it, s wrote the save, c
  * committed, a set a job aside, i found no job that is free. --die kills the worker with signal 9 as it comes to a point
- * (take, tick, save) for the COUNTth time.
+ * (take, tick, save, commit) for the COUNTth time.
  */
 #define _POSIX_C_SOURCE 200809L
 #include "database.h"
@@ -224,7 +224,7 @@ int main(int argc, char **argv)
         if (work_on(&job, reason, sizeof reason)) {
             told('s', "save");
             database_commit();
-            told('c', "");
+            told('c', "commit");
         } else {
             database_aside(&job, reason);
             database_commit();

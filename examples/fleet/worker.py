@@ -4,9 +4,10 @@ usage: python3 worker.py URL SEED [--die POINT:COUNT] [--break HOW]
 
 It tells by one byte each on standard output what it has just done: t took a job, k ticked it, s wrote the save, c
 committed, a set a job aside, i found no job that is free. --die kills the worker with signal 9 as it comes to a point
-(take, tick, save) for the COUNTth time. --break is for trying the soak, which must see it: mixed finishes a job from another
-one's frame store, cycles counts what was asked for and not what was answered, outside writes to the album, lost marks the
-job as taken before it is worked on, dies sets no job aside.
+(take, tick, save, commit) for the COUNTth time. --break is for trying the soak, which must see it: mixed finishes a job from
+another one's frame store, cycles counts what was asked for and not what was answered, outside writes to the album, touched
+writes a byte of a half picture back as it is, which the audit alone tells, lost marks the job as taken before it is worked
+on, dies sets no job aside.
 """
 
 import os
@@ -66,7 +67,7 @@ class Worker:
                 self.piece(job)
                 self.told(b"s", "save")
                 self.database.commit()
-                self.told(b"c")
+                self.told(b"c", "commit")
             except Refusal as refusal:
                 if self.broken == "dies":
                     raise
@@ -90,12 +91,12 @@ class Worker:
         if self.broken == "cycles":
             ran = asked
         done = cartridge.started == cartridge.ended
-        if not done and self.chance.random() < 0.5:
+        if not done and (self.chance.random() < 0.5 or self.broken == "touched"):
             cartridge.write(TRIGGER, specimen.a000 & 6)
         if self.broken == "outside" and done:
-            cartridge.write(SELECT, 0)
-            cartridge.write(0x0000, 0x0A)
-            cartridge.write(0xB000, cartridge.read(0xB000) ^ 1)
+            overwritten(cartridge, 0xB000, 1)
+        if self.broken == "touched" and not done:
+            overwritten(cartridge, 0xA000 + PICTURE_OFFSET, 0)
         save = cartridge.save()
         jobs.keep(
             self.database, job, save, cartridge.recording().decode("ascii"), ran, cartridge.started, cartridge.ended,
@@ -113,6 +114,13 @@ class Worker:
         self.database.run("UPDATE gulxinett_job SET status = 'taken' WHERE id = ?", job.id)
         self.database.commit()
         self.database.begin()
+
+
+def overwritten(cartridge, address, bits):
+    """Writes a byte of the album or of the picture with some of its bits changed."""
+    cartridge.write(SELECT, 0)
+    cartridge.write(0x0000, 0x0A)
+    cartridge.write(address, cartridge.read(address) ^ bits)
 
 
 def start(cartridge, specimen):
@@ -152,15 +160,16 @@ def why(refusal, job):
     return "a call is refused as %d: %s" % (refusal.number, refusal)
 
 
-def main(words):
+def main(kind, words):
+    """Reads the words of a worker, or of another kind of it, and has it work."""
     options = {"--die": "", "--break": ""}
     while len(words) > 2 and words[-2] in options:
         options[words[-2]] = words[-1]
         words = words[:-2]
     if len(words) != 2:
-        sys.exit(__doc__)
-    Worker(words[0], int(words[1]), options["--die"], options["--break"]).work()
+        sys.exit(sys.modules["__main__"].__doc__)
+    kind(words[0], int(words[1]), options["--die"], options["--break"]).work()
 
 
 if __name__ == "__main__":
-    main(sys.argv[1:])
+    main(Worker, sys.argv[1:])
