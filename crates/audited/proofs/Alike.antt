@@ -23,10 +23,11 @@ use Rattle.lines.proofs.Frames.{too-long}
 use Rattle.session.specs.Answer.{numberSaid}
 use Rattle.session.specs.Session.{World, stepOf}
 use Rattle.script.proofs.Whole.{enough}
-use Rattle.auditing.specs.Book.{noted, more, oneMore, lines, row, writes, first, last}
-use Rattle.auditing.specs.Book as book
-use Rattle.auditing.specs.Event.{Event, none, start, stop, resume, dropped, landed, whole, touched, found, callOf, stopSeen, resumeSeen, dropSeen, placeOf, writeSeen, cyclesOf, endOf, seenOf, eventOf}
-use Rattle.auditing.specs.Line.{isMalformed, isRow, lineCounted, touchCounted, eventCounted, eventText, Audited, auditOf, auditAll}
+use Rattle.events.specs.Book.{noted, more, oneMore, lines, row, writes, first, last}
+use Rattle.events.specs.Book as book
+use Rattle.events.specs.Event.{Event, none, start, stop, resume, dropped, landed, whole, touched, found, callOf, stopSeen, resumeSeen, dropSeen, placeOf, writeSeen, cyclesOf, endOf, seenOf, eventOf}
+use Rattle.events.specs.Entry.{touchCounted, eventCounted, eventText}
+use Rattle.auditing.specs.Line.{isMalformed, isRow, lineCounted, Audited, auditOf, auditAll}
 use Rattle.audited.proofs.Writes.{Long}
 
 -- two books that differ in the first two numbers at most

@@ -18,9 +18,9 @@ use Rattle.session.specs.Session.{World}
 use Rattle.script.specs.Text.{begins, linesOf}
 use Rattle.script.specs.Pieces.{joined}
 use Rattle.wording.specs.Events.{heldText}
-use Rattle.auditing.specs.Book.{noted, newBook, written, held}
+use Rattle.events.specs.Book.{noted, newBook, written, held}
 use Rattle.auditing.specs.Line.{Audited, auditOf, auditAll}
-use Rattle.auditing.specs.Pieces.{Standing, lineIn, heldIn, moreOf, lineHeld, ended, kept, pieceAudited, lastAudited, heldSaid, endAudited}
+use Rattle.pieces.specs.Pieces.{Standing, lineIn, heldIn, moreOf, lineHeld, ended, kept, pieceAudited, lastAudited, heldSaid, endAudited}
 use Rattle.audited.specs.Loop.{Auditing, auditingFrom, called, call, pieceRead, looped, InPieces}
 use Rattle.audited.proofs.Writes.{Long, long-next}
 use Rattle.audited.proofs.Alike.{Alike, alike-then, alike-first, SameSaid, lines-same, enough-said}

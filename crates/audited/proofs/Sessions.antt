@@ -18,7 +18,7 @@ use Rattle.lines.specs.Line.{isHex, worth, isLine, hexPart, numberAt, spelled, 
 use Rattle.lines.proofs.Digits.{worth-small}
 use Rattle.session.specs.Session.{World, frameStep, stepOf}
 use Rattle.script.specs.Text.{played}
-use Rattle.auditing.specs.Event.{found, callOf}
+use Rattle.events.specs.Event.{found, callOf}
 use Rattle.auditing.specs.Line.{auditOf, auditAll}
 use Rattle.audited.specs.Sessions.{callsOf, Played}
 

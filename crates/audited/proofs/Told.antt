@@ -29,10 +29,11 @@ use Rattle.lines.specs.declared.line.Frame.the-variants.{Write}
 use Rattle.lines.specs.Line.{frameOf}
 use Rattle.session.specs.Answer.{numberSaid}
 use Rattle.session.specs.Session.{World, stepOf}
-use Rattle.auditing.specs.Book.{noted, newBook, writes, first, last, row}
-use Rattle.auditing.specs.Book as book
-use Rattle.auditing.specs.Event.{Event, none, start, stop, resume, dropped, landed, whole, touched, found, callOf, stopSeen, resumeSeen, dropSeen, placeOf, writeSeen, cyclesOf, endOf, seenOf}
-use Rattle.auditing.specs.Line.{lineCounted, eventCounted, auditOf, auditAll}
+use Rattle.events.specs.Book.{noted, newBook, writes, first, last, row}
+use Rattle.events.specs.Book as book
+use Rattle.events.specs.Event.{Event, none, start, stop, resume, dropped, landed, whole, touched, found, callOf, stopSeen, resumeSeen, dropSeen, placeOf, writeSeen, cyclesOf, endOf, seenOf}
+use Rattle.events.specs.Entry.{eventCounted}
+use Rattle.auditing.specs.Line.{lineCounted, auditOf, auditAll}
 use Rattle.audited.specs.Sessions.{callsOf, atReset, leftBy, nextEvent}
 use Rattle.audited.specs.Told.{Begun, sessionBefore, sessionAfter, countsSince, OneBegun, Started, WholeTold, LandedTold, Landing, FirstLanding, LastLanding, landings, TouchedTold}
 use Rattle.audited.proofs.Sessions.{line-found, audit-found, world-append, world-more, book-append, book-more, calls-append, calls-more, Cut, cut, write-is, lines-bytes}

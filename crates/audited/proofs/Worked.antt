@@ -29,8 +29,8 @@ use Rattle.recording.specs.Record.{lineOf}
 use Rattle.recording.proofs.Recorded.{Sayable, written-read}
 use Rattle.recording.proofs.Recorded as recorded
 use Rattle.session.specs.Session.{World, frameStep, stepOf}
-use Rattle.auditing.specs.Book.{newBook}
-use Rattle.auditing.specs.Event.{whole, found, callOf, cyclesOf}
+use Rattle.events.specs.Book.{newBook}
+use Rattle.events.specs.Event.{whole, found, callOf, cyclesOf}
 use Rattle.auditing.specs.Line.{isRow}
 use Rattle.audited.specs.Sessions.{callsOf, atReset, leftBy, nextEvent}
 use Rattle.audited.specs.Told.{WholeTold}

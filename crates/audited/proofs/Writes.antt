@@ -21,10 +21,11 @@ use Rattle.lines.specs.declared.line.Frame.the-variants.{Reset, Read, Write, Ti
 use Rattle.lines.specs.Line.{frameOf}
 use Rattle.session.specs.Answer.{numberSaid}
 use Rattle.session.specs.Session.{World, stepOf}
-use Rattle.auditing.specs.Book.{noted, more, oneMore, lines, row, writes, first, last}
-use Rattle.auditing.specs.Book as book
-use Rattle.auditing.specs.Event.{Event, none, start, stop, resume, dropped, landed, whole, touched, found, callOf, stopSeen, resumeSeen, dropSeen, placeOf, writeSeen, seenOf, eventOf}
-use Rattle.auditing.specs.Line.{isMalformed, isRow, lineCounted, touchCounted, eventCounted, auditOf, auditAll}
+use Rattle.events.specs.Book.{noted, more, oneMore, lines, row, writes, first, last}
+use Rattle.events.specs.Book as book
+use Rattle.events.specs.Event.{Event, none, start, stop, resume, dropped, landed, whole, touched, found, callOf, stopSeen, resumeSeen, dropSeen, placeOf, writeSeen, seenOf, eventOf}
+use Rattle.events.specs.Entry.{touchCounted, eventCounted}
+use Rattle.auditing.specs.Line.{isMalformed, isRow, lineCounted, auditOf, auditAll}
 use Rattle.audited.specs.Sessions.{callsOf}
 use Rattle.audited.specs.Told.{landsInArea, landings}
 use Rattle.audited.proofs.Sessions.{line-found}

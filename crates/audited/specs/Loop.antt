@@ -6,8 +6,8 @@ use lib.ListN.{length, take, drop}
 use Rattle.session.specs.Session.{World}
 use Rattle.script.specs.Text.{linesOf}
 use Rattle.script.specs.Pieces.{joined}
-use Rattle.auditing.specs.Book.{noted, newBook, written}
-use Rattle.auditing.specs.Pieces.{Standing, pieceAudited, endAudited, heldSaid}
+use Rattle.events.specs.Book.{noted, newBook, written}
+use Rattle.pieces.specs.Pieces.{Standing, pieceAudited, endAudited, heldSaid}
 use Rattle.audited.specs.Sessions.{leftBy}
 
 -- where a program stands: the session, the book, the buffer of a line that has begun, what it has printed, and how many calls it has made

@@ -7,8 +7,8 @@ use Rattle.history.specs.History.{Call, after}
 use Rattle.lines.specs.Line.{frameOf}
 use Rattle.session.specs.Session.{World, world, stepOf}
 use Rattle.script.specs.Text.{played}
-use Rattle.auditing.specs.Book.{newBook}
-use Rattle.auditing.specs.Event.{Event, found, callOf, eventOf}
+use Rattle.events.specs.Book.{newBook}
+use Rattle.events.specs.Event.{Event, found, callOf, eventOf}
 use Rattle.auditing.specs.Line.{Audited, auditAll}
 
 -- the calls of lines, each with the image that the session has when it comes

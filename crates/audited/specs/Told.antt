@@ -17,7 +17,7 @@ use Rattle.history.specs.Seen.{inArea, landsSeen, heldThrough, AreaLeft, afresh
 use Rattle.lines.specs.declared.line.Frame.the-variants.{Write}
 use Rattle.lines.specs.Line.{frameOf}
 use Rattle.session.specs.Session.{World, stepOf}
-use Rattle.auditing.specs.Event.{start, found, callOf, placeOf}
+use Rattle.events.specs.Event.{start, found, callOf, placeOf}
 use Rattle.audited.specs.Sessions.{callsOf, leftBy, nextEvent}
 
 -- lines split at one whose event is a start with this serial, and since which a capture is held after each line

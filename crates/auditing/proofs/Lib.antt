@@ -1,4 +1,2 @@
--- Laws of what is seen of a line.
-pub mod Sights
+-- Laws of a line.
 pub mod Lines
-pub mod Pieces

@@ -1,8 +1,8 @@
 -- A line of a recording: what its call leaves and is seen to do, by what is looked at of two records. Assumes nothing.
 use mathlib.Core.Path.{_≡_, refl, sym, ap, _∙_}
 use mathlib.Core.Bool.{Bool, true, false, not, _&&_, and-true}
-use mathlib.Core.List.{List, []}
-use Prim.Native.Nat.{ℕ, zero, suc, _+_, _%_, _≤_}
+use mathlib.Core.List.{List}
+use Prim.Native.Nat.{ℕ, zero, suc, _+_, _%_}
 use lib.Dec.{eqb, ltb}
 use lib.ListN.{length}
 use borrow.Author.Tests.{eq-eqb, not-true}
@@ -32,15 +32,17 @@ use Rattle.session.specs.Answer.{numberSaid}
 use Rattle.session.specs.Session.{World, rowImage, frameStep, stepOf}
 use Rattle.session.specs.Aside.{ranIn, ranOf, Carried}
 use Rattle.session.proofs.Six.{said-number, write-said}
-use Rattle.auditing.specs.declared.sight.Sight.{Sight}
-use Rattle.auditing.specs.declared.sight.Asks.{Asks}
-use Rattle.auditing.specs.declared.event.Kind.{Kind}
-use Rattle.auditing.specs.declared.event.Kind.the-variants as kinds
-use Rattle.auditing.specs.declared.event.Facts.{Facts}
-use Rattle.auditing.specs.Book.{noted, oneMore, lines}
-use Rattle.auditing.specs.Event.{Event, found, callOf, stopSeen, resumeSeen, dropSeen, placeOf, writeSeen, cyclesOf, seenOf, eventOf}
-use Rattle.auditing.specs.Line.{eventText, isMalformed, isRow, lineCounted, eventCounted, auditOf}
-use Rattle.auditing.specs.Aside.{sightOf, goesAt, asked, kindBy, kindOf, factsOf, eventBy, lineBy, Entered, Audits}
+use Rattle.events.specs.declared.sight.Sight.{Sight}
+use Rattle.events.specs.declared.sight.Asks.{Asks}
+use Rattle.events.specs.declared.event.Kind.{Kind}
+use Rattle.events.specs.declared.event.Kind.the-variants as kinds
+use Rattle.events.specs.declared.event.Facts.{Facts}
+use Rattle.events.specs.Book.{noted, oneMore, lines}
+use Rattle.events.specs.Event.{Event, found, callOf, stopSeen, resumeSeen, dropSeen, placeOf, writeSeen, cyclesOf, seenOf, eventOf}
+use Rattle.events.specs.Entry.{eventText, eventCounted}
+use Rattle.auditing.specs.Line.{isMalformed, isRow, lineCounted, auditOf}
+use Rattle.events.specs.Aside.{sightOf, goesAt, asked, kindBy, kindOf, factsOf, eventBy, lineBy}
+use Rattle.auditing.specs.Aside.{Entered, Audits}
 
 -- ---- what a frame leaves is what its call leaves
 

@@ -1,6 +1,4 @@
--- What an audit says of a recording.
-pub mod Book
-pub mod Event
+-- What an audit says of a line, and its summary.
 pub mod Line
-pub mod Pieces
+pub mod Summary
 pub mod Aside

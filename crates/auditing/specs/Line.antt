@@ -1,31 +1,19 @@
 -- One line of a recording: the session goes on, the book counts, and its event is printed. Assumes nothing.
-use mathlib.Core.Bool.{Bool, true, false, not, _&&_}
+use mathlib.Core.Bool.{Bool, true, false, not}
 use mathlib.Core.List.{List, [], _∷_, _++_}
 use Prim.Native.Nat.{ℕ}
 use lib.Dec.{eqb}
 use lib.ListN.{set}
 use Rattle.laws.specs.Pick.{pick}
-use Rattle.history.specs.Seen.{inArea}
 use Rattle.lines.specs.declared.line.Frame.{Frame}
 use Rattle.lines.specs.declared.line.Frame.the-variants.{Reset, Read, Write, Tick, Row, Malformed}
 use Rattle.lines.specs.Line.{frameOf}
 use Rattle.session.specs.Answer.{numberSaid}
 use Rattle.session.specs.Session.{World, stepOf}
-use Rattle.wording.specs.Events.{startText, stopText, resumeText, droppedText, landedText, wholeText, touchedText}
-use Rattle.auditing.specs.Book.{noted, more, oneMore, lines, row, writes, first, last}
-use Rattle.auditing.specs.Book as book
-use Rattle.auditing.specs.Event.{Event, none, start, stop, resume, dropped, landed, whole, touched, eventOf}
-
--- the text of an event, with its line's number
-unfoldable pub eventText : ℕ → Event → List ℕ
-eventText n none = []
-eventText n (start serial image row registers) = startText n serial image row registers
-eventText n (stop serial cycles) = stopText n serial cycles
-eventText n (resume serial cycles) = resumeText n serial cycles
-eventText n (dropped serial cycles) = droppedText n serial cycles
-eventText n (landed serial at byte) = landedText n serial (inArea at) at byte
-eventText n (whole serial cycles plate) = wholeText n serial cycles plate
-eventText n (touched serial cycles plate writes first last) = touchedText n serial cycles plate writes first last
+use Rattle.events.specs.Book.{noted, more, oneMore, lines, row}
+use Rattle.events.specs.Book as book
+use Rattle.events.specs.Event.{eventOf}
+use Rattle.events.specs.Entry.{eventText, eventCounted}
 
 -- whether a frame is malformed
 unfoldable pub isMalformed : Frame → Bool
@@ -51,22 +39,6 @@ lineCounted b f number =
     pick (isMalformed f) (more (more b lines) book.malformed)
     (pick (not (eqb number 0)) (more (more b lines) book.refused)
     (pick (isRow f) (set (more b lines) row (noted (more b lines) lines)) (more b lines)))
-
--- a bus write in the picture area since the start, on the line that is counted
-unfoldable pub touchCounted : List ℕ → List ℕ
-touchCounted b =
-    more (set (set b first (pick (eqb (noted b writes) 0) (noted b lines) (noted b first))) last (noted b lines)) writes
-
--- an event is counted
-unfoldable pub eventCounted : List ℕ → Event → List ℕ
-eventCounted b none = b
-eventCounted b (start serial image row registers) = more (set b writes 0) book.captures
-eventCounted b (stop serial cycles) = b
-eventCounted b (resume serial cycles) = b
-eventCounted b (dropped serial cycles) = more b book.dropped
-eventCounted b (landed serial at byte) = pick (inArea at) (touchCounted b) b
-eventCounted b (whole serial cycles plate) = more (more b book.ended) book.whole
-eventCounted b (touched serial cycles plate writes first last) = more b book.ended
 
 -- what a line leaves: the session, the book, and the text of its event
 pub record Audited : Type 0 where

@@ -1,7 +1,3 @@
-// What an audit says of a recording.
-pub mod book;
-pub mod event;
+// What an audit says of a line of a recording, and its summary.
 pub mod line;
-pub mod piece;
-pub mod sight;
-pub mod text;
+pub mod summary;

@@ -1,17 +1,17 @@
 // One line of a recording: it is carried out, counted, and its event is put into a lent buffer.
-use super::book::LINES;
-use super::book::count_event;
-use super::book::count_line;
-use super::book::one_more;
-use super::event::Facts;
-use super::event::Kind;
-use super::event::event_of;
-use super::event::facts_of;
-use super::event::kind_of;
-use super::event::landed;
-use super::sight::asks_of;
-use super::sight::look;
-use super::text::put_event;
+use events::book::LINES;
+use events::book::count_event;
+use events::book::count_line;
+use events::book::one_more;
+use events::event::Facts;
+use events::event::Kind;
+use events::event::event_of;
+use events::event::facts_of;
+use events::event::kind_of;
+use events::event::landed;
+use events::sight::asks_of;
+use events::sight::look;
+use events::text::put_event;
 use lines::line::frame_of;
 use session::session::carry_out;
 ghost use mathlib.Core.Path.{_≡_};
@@ -22,7 +22,8 @@ ghost use Rattle.timing.specs.Lent.{ramAllowed};
 ghost use Rattle.layout.specs.Layout.{isRecord, decoded};
 ghost use Rattle.session.specs.Session.{world};
 ghost use Rattle.auditing.specs.Line.{auditOf};
-ghost use Rattle.auditing.specs.Aside.{eventBy, Entered, Audits};
+ghost use Rattle.events.specs.Aside.{eventBy};
+ghost use Rattle.auditing.specs.Aside.{Entered, Audits};
 
 // Counts a line and its event, and puts its event's text at a place of a buffer.
 fn entered(

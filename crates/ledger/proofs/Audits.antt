@@ -6,7 +6,7 @@ use Prim.Native.Nat.{ℕ, _%_, _<_, _≤_, min}
 use native.Mathlib.Nat.{zero-add}
 use native.Mathlib.Omega.{arith}
 use lib.Dec.{eqb, leb, ltb}
-use lib.ListN.{length, take, set}
+use lib.ListN.{length, set}
 use lib.Seq.{take-all, length-take-le}
 use borrow.Author.Tests.{eqb-true, leb-true, ltb-true}
 use Rattle.laws.proofs.Bools.{both-left, both-right, not-fails}
@@ -22,9 +22,11 @@ use Rattle.layout.proofs.Inverse.{encode-decode}
 use Rattle.lines.specs.Hex.{placed}
 use Rattle.session.specs.Session.{World, world}
 use Rattle.answers.specs.Packed.{packed, numberIn}
-use Rattle.auditing.specs.Book.{noted, written, lines}
-use Rattle.auditing.specs.Pieces.{Standing, lineIn, pieceAudited, endAudited, summaryOf}
-use Rattle.auditing.specs.Aside.{standing}
+use Rattle.answers.proofs.Only.{Says, packed-says}
+use Rattle.events.specs.Book.{noted, written, lines}
+use Rattle.auditing.specs.Summary.{summaryOf}
+use Rattle.pieces.specs.Pieces.{Standing, lineIn, pieceAudited, endAudited}
+use Rattle.pieces.specs.Aside.{standing}
 use Rattle.wording.specs.Aside.{Put}
 use Rattle.changes.specs.Changes.{ends, changeText}
 use Rattle.ledger.specs.Audits.{Auditing, auditing, asStanding, fits, auditRows, lent, auditBytes, endBytes, Noting, noting, said, room, sameRam, changedRows, changedBytes, summaryRows, summaryBytes}
@@ -128,6 +130,11 @@ module _ (s rom ram store image book line out : List ℕ) where
       refuses (auditRows s book line out) inAuditing (λ n. auditing (packed n 0) s ram store image book line out)
       (asStanding (pieceAudited rom w book line out (lent piece) .used) (pieceAudited rom w book line out (lent piece))) (λ n. omega arith) (omega (arith, m)) refl
 
+  -- where it is not refused the value is how many bytes were read
+  pub audit-says : (piece : List ℕ) → lowest (auditRows s book line out) ≡ 0
+      → Says (auditBytes s rom ram store image book line piece out .answer) 0 (pieceAudited rom w book line out (lent piece) .used)
+  audit-says piece e = rw (audit-refuses piece .does e) (packed-says _ _ (used-small piece))
+
   -- the end: 1, then 7
   pub end-refuses : Refuses (auditRows s book line out) inAuditing (λ n. auditing (packed n 0) s ram store image book line out) (endBytes s rom ram store image book line out)
       (asStanding (noted (endAudited rom w book line out .book) written % 4294967296) (endAudited rom w book line out))
@@ -135,6 +142,11 @@ module _ (s rom ram store image book line out : List ℕ) where
   end-refuses =
       refuses (auditRows s book line out) inAuditing (λ n. auditing (packed n 0) s ram store image book line out)
       (asStanding (noted (endAudited rom w book line out .book) written % 4294967296) (endAudited rom w book line out)) (λ n. omega arith) (omega arith) refl
+
+  -- and of an end how many were written
+  pub end-says : lowest (auditRows s book line out) ≡ 0
+      → Says (endBytes s rom ram store image book line out .answer) 0 (noted (endAudited rom w book line out .book) written % 4294967296)
+  end-says e = rw (end-refuses .does e) (packed-says _ _ (omega arith))
 
 -- ---- changes and the summary
 
@@ -158,6 +170,11 @@ changed-refuses book first ram from out =
     refuses (changedRows book first ram out) inNoting (λ n. noting (packed n 0) book out)
     (said (ends first ram (min from (length ram)) % 4294967296) book out (changeText (noted book lines) first ram (min from (length ram)))) (λ n. omega arith) (omega arith) refl
 
+-- the value is the place after it
+pub changed-says : (book first ram : List ℕ) (from : ℕ) (out : List ℕ) → lowest (changedRows book first ram out) ≡ 0
+    → Says (changedBytes book first ram from out .answer) 0 (ends first ram (min from (length ram)) % 4294967296)
+changed-says book first ram from out e = rw (changed-refuses book first ram from out .does e) (packed-says _ _ (omega arith))
+
 -- the summary: 1, then 7
 pub summary-refuses : (book s out : List ℕ) → Refuses (summaryRows book s out) inNoting (λ n. noting (packed n 0) book out) (summaryBytes book s out)
     (said (length (summaryOf book (decoded s .held)) % 4294967296) book out (summaryOf book (decoded s .held)))
@@ -165,3 +182,7 @@ unfolding summaryRows summaryBytes risingFrom packed
 summary-refuses book s out =
     refuses (summaryRows book s out) inNoting (λ n. noting (packed n 0) book out)
     (said (length (summaryOf book (decoded s .held)) % 4294967296) book out (summaryOf book (decoded s .held))) (λ n. omega arith) (omega arith) refl
+
+pub summary-says : (book s out : List ℕ) → lowest (summaryRows book s out) ≡ 0
+    → Says (summaryBytes book s out .answer) 0 (length (summaryOf book (decoded s .held)) % 4294967296)
+summary-says book s out e = rw (summary-refuses book s out .does e) (packed-says _ _ (omega arith))

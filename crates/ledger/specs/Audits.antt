@@ -11,8 +11,9 @@ use Rattle.lines.specs.Hex.{placed}
 use Rattle.session.specs.Session.{world}
 use Rattle.layout.specs.Layout.{isRecord, encoded, decoded}
 use Rattle.answers.specs.Packed.{packed}
-use Rattle.auditing.specs.Book.{noted, written, lines}
-use Rattle.auditing.specs.Pieces.{Standing, pieceAudited, endAudited, summaryOf}
+use Rattle.events.specs.Book.{noted, written, lines}
+use Rattle.auditing.specs.Summary.{summaryOf}
+use Rattle.pieces.specs.Pieces.{Standing, pieceAudited, endAudited}
 use Rattle.changes.specs.Changes.{ends, changeText}
 
 -- an answer, and what is left: the session's state, RAM, frame store and image, the book, and the buffers of a line and of the events

@@ -1,14 +1,14 @@
 // What C and Rust call to audit recordings. Each function answers as those of `embed` do; the book's first number is how many bytes were put into the buffer.
 use answers::pack;
 use answers::refused;
-use auditing::piece::end_audited;
-use auditing::piece::piece_audited;
-use auditing::piece::summary_put;
+use auditing::summary::summary_put;
 use changes::change_put;
 use controller::Refusal;
 use controller::Verdict;
 use controller::judge::refused_if;
 use layout::is_record;
+use pieces::end_audited;
+use pieces::piece_audited;
 use timing::ram_allowed;
 ghost use mathlib.Core.Path.{_≡_};
 ghost use Prim.Native.Nat.{_≤_, min};

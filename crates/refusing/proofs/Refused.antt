@@ -4,7 +4,7 @@ use mathlib.Core.Path.{_≡_, refl, sym, ap, _∙_}
 use mathlib.Core.Logic.{_↔_}
 use mathlib.Core.Bool.{Bool, true, false, not, _&&_}
 use mathlib.Core.List.{List, [], _∷_, _++_}
-use Prim.Native.Nat.{ℕ, suc, _<_}
+use Prim.Native.Nat.{ℕ, suc, _%_, _<_, min}
 use native.Mathlib.Omega.{arith}
 use lib.Dec.{eqb, ltb}
 use lib.ListN.{length, drop}
@@ -45,6 +45,7 @@ use Rattle.photos.specs.Photo.{imageOf, importRows}
 use Rattle.photos.proofs.Imports.{import-refuses}
 use Rattle.desk.specs.Choice.{chooseRows, chosen}
 use Rattle.desk.proofs.Choices.{choose-refuses}
+use Rattle.session.specs.Session.{World, world}
 use Rattle.script.specs.Text.{linesOf}
 use Rattle.salvaging.specs.Salvage.{cleaned, salvageRows, unsalvaged, salvageDone, salvageMeans}
 use Rattle.salvaging.proofs.Outcomes.{inSalvaging}
@@ -56,14 +57,20 @@ use Rattle.embed.specs.Exports.{resetBytes, readBytes, writeBytes, tickBytes, p
 use Rattle.images.specs.Images.{asDrawn, pictureBytes, exportBytes, shadesBytes, placeBytes, readingsBytes, asRead, importBytes}
 use Rattle.images.specs.Judges.{asJudged, judgeBytes}
 use Rattle.recorder.specs.Recorder.{asLine, recordBytes, asReported, salvageBytes}
+use Rattle.events.specs.Book.{noted, written, lines}
+use Rattle.auditing.specs.Summary.{summaryOf}
+use Rattle.pieces.specs.Pieces.{pieceAudited, endAudited}
+use Rattle.changes.specs.Changes.{ends, changeText}
+use Rattle.ledger.specs.Audits.{asStanding, auditRows, lent, auditBytes, endBytes, said, changedRows, changedBytes, summaryRows, summaryBytes}
 use Rattle.embed.proofs.Cases.{read-unread, read-done, write-unread, write-done, tick-unread, tick-done, choose-unread, choose-done, inspect-unread, inspect-done}
 use Rattle.images.proofs.Cases.{place-unread, place-done, readings-unread, readings-done}
 use Rattle.answers.proofs.Only.{Says, packed-says}
 use Rattle.embed.proofs.Only.{read-says, write-says, tick-says, choose-says, inspect-says}
 use Rattle.recorder.proofs.Only.{record-says, salvage-says}
 use Rattle.images.proofs.Judges.{judge-says}
+use Rattle.ledger.proofs.Audits.{audit-refuses, end-refuses, changed-refuses, summary-refuses}
 use Rattle.images.proofs.Only.{export-says, shades-says, place-says, readings-says}
-use Rattle.refusing.specs.Tables.{inCalled, inFilled, inReported, leaves, leavesBuffer, leavesBoth, badState, resetTable, readTable, writeTable, tickTable, inspectTable, chooseTable, placeTable, readingsTable, over, salvageTable}
+use Rattle.refusing.specs.Tables.{inCalled, inFilled, inReported, inAuditing, inNoting, leaves, leavesBuffer, leavesBoth, leavesAudit, leavesNoted, badState, resetTable, readTable, writeTable, tickTable, inspectTable, chooseTable, placeTable, readingsTable, over, salvageTable}
 
 -- a call's refusals in the table's own words: a number is answered exactly when its row holds and no lower one does, and then the outcome is
 -- that refusal
@@ -223,3 +230,28 @@ module _ (script text report : List ℕ) where
   pub salvage-refused : Refuses (salvageTable script text report) inReported (leavesBoth text report) (salvageBytes script text report) (asReported (salvageDone script text report))
   unfolding salvageBytes
   salvage-refused = carried salvage-refuses asReported inReported (leavesBoth text report) (λ k. refl) (salvage-says script text report .number)
+
+-- ---- an audit: what its tables say of the sizes, and what is done where no row holds
+
+module _ (s rom ram store image book line out : List ℕ) where
+  abbrev session : World
+  session = world (decoded s) ram store image
+
+  pub audit-refused : (piece : List ℕ)
+      → Refuses (auditRows s book line out) inAuditing (leavesAudit s ram store image book line out) (auditBytes s rom ram store image book line piece out)
+      (let a = pieceAudited rom session book line out (lent piece) in asStanding (a .used) a)
+  audit-refused piece = audit-refuses s rom ram store image book line out piece
+
+  pub audit-end-refused : Refuses (auditRows s book line out) inAuditing (leavesAudit s ram store image book line out) (endBytes s rom ram store image book line out)
+      (let a = endAudited rom session book line out in asStanding (noted (a .book) written % 4294967296) a)
+  audit-end-refused = end-refuses s rom ram store image book line out
+
+pub audit-changed-refused : (book first ram : List ℕ) (from : ℕ) (out : List ℕ)
+    → Refuses (changedRows book first ram out) inNoting (leavesNoted book out) (changedBytes book first ram from out)
+    (said (ends first ram (min from (length ram)) % 4294967296) book out (changeText (noted book lines) first ram (min from (length ram))))
+audit-changed-refused book first ram from out = changed-refuses book first ram from out
+
+pub audit-summary-refused : (book s out : List ℕ)
+    → Refuses (summaryRows book s out) inNoting (leavesNoted book out) (summaryBytes book s out)
+    (let text = summaryOf book (decoded s .held) in said (length text % 4294967296) book out text)
+audit-summary-refused book s out = summary-refuses book s out

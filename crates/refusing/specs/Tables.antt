@@ -16,6 +16,7 @@ use Rattle.layout.specs.Layout.{isRecord, decoded}
 use Rattle.answers.specs.Packed.{packed, numberIn}
 use Rattle.answers.specs.Called.{Called, called, Filled, filled}
 use Rattle.recorder.specs.Recorder.{Reported, reported}
+use Rattle.ledger.specs.Audits.{Auditing, auditing, Noting, noting}
 
 -- the number in an answer
 abbrev pub inCalled : Called → ℕ
@@ -26,6 +27,12 @@ inFilled b = numberIn (b .answer)
 
 abbrev pub inReported : Reported → ℕ
 inReported b = numberIn (b .answer)
+
+abbrev pub inAuditing : Auditing → ℕ
+inAuditing b = numberIn (b .answer)
+
+abbrev pub inNoting : Noting → ℕ
+inNoting b = numberIn (b .answer)
 
 -- refused by n, a call answers the value 0 and leaves the state bytes, the RAM and the frame store that it was lent
 abbrev pub leaves : List ℕ → List ℕ → List ℕ → ℕ → Called
@@ -38,6 +45,14 @@ leavesBuffer out n = filled (packed n 0) out
 -- a salvage both of its buffers
 abbrev pub leavesBoth : List ℕ → List ℕ → ℕ → Reported
 leavesBoth text report n = reported (packed n 0) text report
+
+-- an audit the session, the book, and the buffers of a line and of the events
+abbrev pub leavesAudit : List ℕ → List ℕ → List ℕ → List ℕ → List ℕ → List ℕ → List ℕ → ℕ → Auditing
+leavesAudit s ram store image book line out n = auditing (packed n 0) s ram store image book line out
+
+-- one that looks for changes or sums up, the book and the buffer for the events
+abbrev pub leavesNoted : List ℕ → List ℕ → ℕ → Noting
+leavesNoted book out n = noting (packed n 0) book out
 
 -- 1: the bytes are no record, or that of a state that can't exist
 abbrev pub badState : List ℕ → Row

@@ -2,7 +2,7 @@
 use mathlib.Core.Path.{_≡_, sym, ap, _∙_}
 use mathlib.Core.Bool.{true}
 use mathlib.Core.List.{List}
-use Prim.Native.Nat.{ℕ, _≤_}
+use Prim.Native.Nat.{ℕ}
 use native.Mathlib.Omega.{arith}
 use lib.ListN.{length, take}
 use lib.Seq.{length-take-le}
@@ -10,7 +10,7 @@ use Rattle.controller.proofs.Refusals.{by-why, by-fits, fits-none}
 use Rattle.layout.specs.Layout.{isRecord, decoded}
 use Rattle.session.specs.Session.{world}
 use Rattle.answers.specs.Packed.{packed}
-use Rattle.auditing.specs.Pieces.{Standing, pieceAudited}
+use Rattle.pieces.specs.Pieces.{Standing, pieceAudited}
 use Rattle.ledger.specs.Audits.{auditing, fits}
 use Rattle.ledger.proofs.Audits.{fits-sizes, audit-fits, lent-most, piece-used, audit-refuses, as-standing}
 use borrow.Author.Needs.{needs}

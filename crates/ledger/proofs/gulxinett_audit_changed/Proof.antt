@@ -1,13 +1,11 @@
 -- `ledger::gulxinett_audit_changed` meets its contract: it is judged, and then the first stretch is said. Assumes nothing.
-use mathlib.Core.Path.{_≡_, sym, ap, _∙_}
+use mathlib.Core.Path.{_≡_, ap, _∙_}
 use mathlib.Core.Bool.{true}
-use mathlib.Core.List.{List}
-use Prim.Native.Nat.{ℕ, _%_, _≤_, min}
+use Prim.Native.Nat.{_%_}
 use native.Mathlib.Omega.{arith}
-use lib.ListN.{length}
 use Rattle.controller.proofs.Refusals.{by-why, by-fits, fits-none}
 use Rattle.answers.specs.Packed.{packed}
-use Rattle.auditing.specs.Book.{noted, lines}
+use Rattle.events.specs.Book.{noted, lines}
 use Rattle.changes.specs.Changes.{ends, changeText}
 use Rattle.ledger.specs.Audits.{noting, room, sameRam}
 use Rattle.ledger.proofs.Audits.{room-sizes, same-sizes, changed-fits, changed-refuses, as-said}

@@ -1,13 +1,12 @@
 -- `ledger::gulxinett_audit_end` meets its contract: it is judged, and then the recording is ended. Assumes nothing.
 use mathlib.Core.Path.{_≡_, ap, _∙_}
 use mathlib.Core.Bool.{true}
-use Prim.Native.Nat.{ℕ, _%_, _≤_}
-use lib.ListN.{length}
+use Prim.Native.Nat.{_%_}
 use Rattle.controller.proofs.Refusals.{by-why, by-fits, fits-none}
-use Rattle.layout.specs.Layout.{isRecord, decoded}
+use Rattle.layout.specs.Layout.{isRecord}
 use Rattle.answers.specs.Packed.{packed}
-use Rattle.auditing.specs.Book.{noted, written}
-use Rattle.auditing.specs.Pieces.{Standing}
+use Rattle.events.specs.Book.{noted, written}
+use Rattle.pieces.specs.Pieces.{Standing}
 use Rattle.ledger.specs.Audits.{auditing, fits}
 use Rattle.ledger.proofs.Audits.{fits-sizes, audit-fits, end-refuses, as-standing}
 use borrow.Author.Needs.{needs}

@@ -1,15 +1,14 @@
 -- `ledger::gulxinett_audit_summary` meets its contract: it is judged, and then the summary is said. Assumes nothing.
 use mathlib.Core.Path.{_≡_, refl, ap, _∙_}
 use mathlib.Core.Bool.{true}
-use Prim.Native.Nat.{ℕ, _%_, _≤_}
+use Prim.Native.Nat.{_%_}
 use native.Mathlib.Nat.{zero-add}
 use native.Mathlib.Omega.{arith}
-use lib.ListN.{length}
 use Rattle.controller.proofs.Refusals.{by-why, by-fits, fits-none}
 use Rattle.layout.specs.Layout.{isRecord, decoded}
 use Rattle.layout.proofs.Inverse.{record-parts}
 use Rattle.answers.specs.Packed.{packed}
-use Rattle.auditing.specs.Pieces.{summaryOf}
+use Rattle.auditing.specs.Summary.{summaryOf}
 use Rattle.ledger.specs.Audits.{noting, room}
 use Rattle.ledger.proofs.Audits.{room-sizes, summary-fits, summary-refuses, as-said}
 use borrow.Author.Needs.{needs}

@@ -3,7 +3,7 @@ use mathlib.Core.Path.{_∙_}
 use Prim.Native.Nat.{_+_}
 use lib.ListN.{length}
 use Rattle.lines.specs.Hex.{placed}
-use Rattle.auditing.specs.Line.{eventText, eventCounted}
+use Rattle.events.specs.Entry.{eventText, eventCounted}
 use borrow.Author.Needs.{needs}
 use Rattle.auditing.proofs.line.entered.Statement.{statement}
 use Rattle.auditing.proofs.line.entered.Tie as tie

@@ -1,5 +1,5 @@
 -- `auditing::line::line_audited` meets its contract: what is seen of the two records is what is seen of the call. Assumes nothing.
-use mathlib.Core.Path.{_≡_, sym, _∙_}
+use mathlib.Core.Path.{sym, _∙_}
 use native.Mathlib.Omega.{arith}
 use Rattle.calls.proofs.Bytes.{long, part-at, part-long, taken-at}
 use Rattle.auditing.proofs.Lines.{end-allowed, line-audits}

@@ -1,0 +1,3 @@
+-- Laws of what is seen of a line.
+pub mod Sights
+pub mod Puts

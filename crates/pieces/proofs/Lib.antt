@@ -1,0 +1,2 @@
+-- Laws of a recording in pieces.
+pub mod Pieces

@@ -1,0 +1,3 @@
+-- A recording in pieces, and its end.
+pub mod Pieces
+pub mod Aside
