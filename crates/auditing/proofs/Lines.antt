@@ -3,6 +3,8 @@ use mathlib.Core.Path.{_≡_, refl, sym, ap, _∙_}
 use mathlib.Core.Bool.{Bool, true, false, not, _&&_, and-true}
 use mathlib.Core.List.{List}
 use Prim.Native.Nat.{ℕ, zero, suc, _+_, _%_}
+use native.Mathlib.Nat.{add-zero}
+use native.Mathlib.Omega.{arith}
 use lib.Dec.{eqb, ltb}
 use lib.ListN.{length}
 use borrow.Author.Tests.{eq-eqb, not-true}
@@ -27,6 +29,7 @@ use Rattle.lines.specs.declared.line.Frame.{Frame}
 use Rattle.lines.specs.declared.line.Frame.the-variants.{Reset, Read, Write, Tick, Row, Malformed}
 use Rattle.lines.specs.Line.{frameOf}
 use Rattle.lines.specs.Hex.{placed}
+use Rattle.lines.proofs.Placed.{placed-none}
 use Rattle.session.specs.declared.answer.Answer.{Answer}
 use Rattle.session.specs.Answer.{numberSaid}
 use Rattle.session.specs.Session.{World, rowImage, frameStep, stepOf}
@@ -42,7 +45,7 @@ use Rattle.events.specs.Event.{Event, found, callOf, stopSeen, resumeSeen, drop
 use Rattle.events.specs.Entry.{eventText, eventCounted}
 use Rattle.auditing.specs.Line.{isMalformed, isRow, lineCounted, auditOf}
 use Rattle.events.specs.Aside.{sightOf, goesAt, asked, kindBy, kindOf, factsOf, eventBy, lineBy}
-use Rattle.auditing.specs.Aside.{Entered, Audits}
+use Rattle.auditing.specs.Aside.{isQuiet, Entered, Audits}
 
 -- ---- what a frame leaves is what its call leaves
 
@@ -282,3 +285,20 @@ module _ (rom line b : List ℕ) (w w′ : World) (f : Frame) (a : Answer) (is :
         end = e .end ∙ ap (λ (x : Event). at + length (eventText n x)) event-is;
         few = e .few;
       }
+
+-- where there is no event a line is counted, and nothing is said
+pub quiet-entered : (b image ram regs out : List ℕ) (f : Facts) (at number : ℕ) (malformed isRow : Bool) (k : Kind) → isQuiet k ≡ true
+    → Entered b malformed isRow number (eventBy b image ram regs f k) out at (lineBy b malformed isRow number) out at
+unfolding isQuiet eventBy eventText eventCounted
+quiet-entered b image ram regs out f at number malformed isRow kinds.Nothing e = record {
+  book = refl;
+  text = sym (placed-none out at);
+  end = sym (add-zero at);
+  few = omega arith;
+}
+quiet-entered b image ram regs out f at number malformed isRow kinds.Start e = absurd (never e refl)
+quiet-entered b image ram regs out f at number malformed isRow kinds.End e = absurd (never e refl)
+quiet-entered b image ram regs out f at number malformed isRow kinds.Drop e = absurd (never e refl)
+quiet-entered b image ram regs out f at number malformed isRow kinds.Land e = absurd (never e refl)
+quiet-entered b image ram regs out f at number malformed isRow kinds.Stop e = absurd (never e refl)
+quiet-entered b image ram regs out f at number malformed isRow kinds.Resume e = absurd (never e refl)

@@ -9,6 +9,8 @@ use events::event::event_of;
 use events::event::facts_of;
 use events::event::kind_of;
 use events::event::landed;
+use events::sight::Asks;
+use events::sight::Sight;
 use events::sight::asks_of;
 use events::sight::look;
 use events::text::put_event;
@@ -22,8 +24,8 @@ ghost use Rattle.timing.specs.Lent.{ramAllowed};
 ghost use Rattle.layout.specs.Layout.{isRecord, decoded};
 ghost use Rattle.session.specs.Session.{world};
 ghost use Rattle.auditing.specs.Line.{auditOf};
-ghost use Rattle.events.specs.Aside.{eventBy};
-ghost use Rattle.auditing.specs.Aside.{Entered, Audits};
+ghost use Rattle.events.specs.Aside.{factsOf, eventBy};
+ghost use Rattle.auditing.specs.Aside.{isQuiet, Entered, Audits};
 
 // Counts a line and its event, and puts its event's text at a place of a buffer.
 fn entered(
@@ -50,6 +52,63 @@ fn entered(
     count_line(book, malformed, row, number);
     count_event(book, seen);
     put_event(out, at, line, seen, registers)
+}
+
+// Whether there is no event.
+fn is_quiet(kind: Kind) -> bool
+    ensures { λ r. ⌜ r ≡ isQuiet kind ⌝ }
+{
+    match kind {
+        Kind::Nothing => true,
+        Kind::Start => false,
+        Kind::End => false,
+        Kind::Drop => false,
+        Kind::Land => false,
+        Kind::Stop => false,
+        Kind::Resume => false,
+    }
+}
+
+// The same by what is looked at: what an event says is worked out only where there is one.
+fn entered_by(
+    book: &mut [u64],
+    kind: Kind,
+    before: Sight,
+    next: u16,
+    asks: Asks,
+    size: usize,
+    ran: u32,
+    number: u32,
+    image: &[u8],
+    ram: &[u8],
+    registers: &[u8],
+    out: &mut [u8],
+    at: usize,
+) -> usize
+    requires { ⌜ (length (now book) ≡ 13) × (at + 256 ≤ length (now out)) × (length (now registers) ≡ 54)
+        × (kind ≡ Kind.End → ramAllowed (length (now ram)) ≡ true) ⌝ }
+    ensures { λ r. ⌜ Entered (now (book .entry)) (asks .malformed) (asks .row) number
+        (eventBy (now (book .entry)) (now (image .entry)) (now (ram .entry)) (now (registers .entry)) (factsOf before next asks size ran) kind)
+        (now (out .entry)) at (now (book .exit)) (now (out .exit)) r ⌝ }
+{
+    if is_quiet(kind) {
+        count_line(book, asks.malformed, asks.row, number);
+        return at;
+    }
+    let facts = facts_of(before, next, asks, size, ran);
+    entered(
+        book,
+        kind,
+        facts,
+        asks.malformed,
+        asks.row,
+        number,
+        image,
+        ram,
+        registers,
+        out,
+        at,
+    )
 }
 
 // Carries out a line of a recording, counts it, and puts its event at a place of a buffer; returns the place after it.
@@ -84,13 +143,14 @@ pub fn line_audited(
         asks.reset,
         lands,
     );
-    let facts = facts_of(before, after.serial, asks, length, answer.value);
-    entered(
+    entered_by(
         book,
         kind,
-        facts,
-        asks.malformed,
-        asks.row,
+        before,
+        after.serial,
+        asks,
+        length,
+        answer.value,
         answer.number,
         image,
         ram,
