@@ -71,8 +71,9 @@ extern "C" {
 
 /* Bytes of stack below the caller's frame that suffice for any call here, compiled for x86-64, for
  * aarch64 or for the browser. No function here recurs, and what is large is lent, but for the light
- * of an image in gulxinett_picture and gulxinett_judge, and the picture of the latter; tests/stack works
- * the need of each function out from the compiled frames. */
+ * of an image in gulxinett_picture and gulxinett_judge, the picture of the latter, and the file of a
+ * plate in gulxinett_audit and gulxinett_audit_end; tests/stack works the need of each function out from
+ * the compiled frames. */
 #define GULXINETT_STACK 24576
 
 /* A save has its RAM's length and SAVE_LEN bytes more: the magic, the RAM's banks, the state record from

@@ -1,6 +1,7 @@
 -- Theorems on audits.
 pub mod Sessions
 pub mod Writes
+pub mod Summed
 pub mod Told
 pub mod Worked
 pub mod Alike

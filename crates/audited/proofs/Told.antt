@@ -37,6 +37,7 @@ use Rattle.auditing.specs.Line.{lineCounted, auditOf, auditAll}
 use Rattle.audited.specs.Sessions.{callsOf, atReset, leftBy, nextEvent}
 use Rattle.audited.specs.Told.{Begun, sessionBefore, sessionAfter, countsSince, OneBegun, Started, WholeTold, LandedTold, Landing, FirstLanding, LastLanding, landings, TouchedTold}
 use Rattle.audited.proofs.Sessions.{line-found, audit-found, world-append, world-more, book-append, book-more, calls-append, calls-more, Cut, cut, write-is, lines-bytes}
+use Rattle.audited.proofs.Summed.{row-counted}
 use Rattle.audited.proofs.Writes.{Long, long-line, long-all, no-reset, none-landed, left-none, Found-landing, First, first-landed, Last, some-last, all-lines, writes-counted, start-none, lands-write}
 
 -- ---- the serial stays while a capture is held
@@ -353,6 +354,7 @@ module _ (rom ram store image : List ℕ) where
         byte = s .byte;
         write = is-write .0;
         checksum = refl;
+        row = λ most. row-counted rom (c .before) w₀ newBook refl (omega (arith, most));
         registers = registers-then ∙ ap (λ (x : Found). set (x .state .registers) 0 (s .byte % 8)) (sym before-same);
         counts = e;
       }

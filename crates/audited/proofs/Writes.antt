@@ -7,7 +7,7 @@ use native.Mathlib.Omega.{arith}
 use lib.Dec.{eqb, ltb}
 use lib.ListN.{length, set, length-set}
 use lib.Seq.{getD-set-same, getD-set-other}
-use borrow.Author.Tests.{eqb-true, eqb-false, eq-eqb, ne-eqb, lt-ltb, ltb-false}
+use borrow.Author.Tests.{eqb-true, eq-eqb, ne-eqb, lt-ltb, ltb-false}
 use Rattle.laws.specs.Pick.{pick}
 use Rattle.laws.proofs.Bools.{either, not-both, both-left, both-right, both-hold, neither-left, neither-right}
 use Rattle.laws.proofs.Pick.{pick-ind}
@@ -35,7 +35,7 @@ use Rattle.audited.proofs.Sessions.{line-found}
 abbrev pub Long : List ℕ → Type 0
 Long b = length b ≡ 13
 
-long-set : (b : List ℕ) (k v : ℕ) → Long b → Long (set b k v)
+pub long-set : (b : List ℕ) (k v : ℕ) → Long b → Long (set b k v)
 long-set b k v l = length-set b k v ∙ l
 
 pub long-line : (b : List ℕ) (f : Frame) (n : ℕ) → Long b → Long (lineCounted b f n)
@@ -111,15 +111,37 @@ touch-last b l =
     getD-set-other y writes last (oneMore (noted y writes)) 0 (λ e. omega arith) ∙ getD-set-same x last (noted b lines) 0 (omega (arith, long))
 
 -- a line leaves numbers that it does not count
-line-keeps : (b : List ℕ) (f : Frame) (n k : ℕ) → 3 < k → k < 7 → noted (lineCounted b f n) k ≡ noted b k
+pub line-keeps : (b : List ℕ) (f : Frame) (n k : ℕ) → (k ≡ lines → ⊥) → (k ≡ row → ⊥) → (k ≡ book.malformed → ⊥) → (k ≡ book.refused → ⊥)
+    → noted (lineCounted b f n) k ≡ noted b k
 unfolding lineCounted
-line-keeps b f n k low high =
+line-keeps b f n k p q r s =
     let keep : (c : List ℕ) (j v : ℕ) → (k ≡ j → ⊥) → noted (set c j v) k ≡ noted c k = λ c j v h. getD-set-other c j k v 0 h in
-    let m : noted (more b lines) k ≡ noted b k = keep b lines _ (λ e. omega arith) in
-    pick-ind (λ (c : List ℕ). noted c k ≡ noted b k) (isMalformed f) (λ _. keep (more b lines) book.malformed _ (λ e. omega arith) ∙ m)
+    let m : noted (more b lines) k ≡ noted b k = keep b lines _ p in
+    pick-ind (λ (c : List ℕ). noted c k ≡ noted b k) (isMalformed f) (λ _. keep (more b lines) book.malformed _ r ∙ m)
     (λ _.
-    pick-ind (λ (c : List ℕ). noted c k ≡ noted b k) (not (eqb n 0)) (λ _. keep (more b lines) book.refused _ (λ e. omega arith) ∙ m)
-    (λ _. pick-ind (λ (c : List ℕ). noted c k ≡ noted b k) (isRow f) (λ _. keep (more b lines) row _ (λ e. omega arith) ∙ m) (λ _. m)))
+    pick-ind (λ (c : List ℕ). noted c k ≡ noted b k) (not (eqb n 0)) (λ _. keep (more b lines) book.refused _ s ∙ m)
+    (λ _. pick-ind (λ (c : List ℕ). noted c k ≡ noted b k) (isRow f) (λ _. keep (more b lines) row _ q ∙ m) (λ _. m)))
+
+-- and so does an event, and a write in the area
+pub touch-keeps : (b : List ℕ) (k : ℕ) → (k ≡ writes → ⊥) → (k ≡ first → ⊥) → (k ≡ last → ⊥) → noted (touchCounted b) k ≡ noted b k
+unfolding touchCounted
+touch-keeps b k p q r =
+    let x = set b first (pick (eqb (noted b writes) 0) (noted b lines) (noted b first)) in
+    let y = set x last (noted b lines) in
+    getD-set-other y writes k (oneMore (noted y writes)) 0 p ∙ getD-set-other x last k (noted b lines) 0 r ∙ getD-set-other b first k _ 0 q
+
+pub event-keeps : (b : List ℕ) (e : Event) (k : ℕ) → k ≤ 8 → (k ≡ writes → ⊥) → (k ≡ first → ⊥) → (k ≡ last → ⊥) → noted (eventCounted b e) k ≡ noted b k
+unfolding eventCounted
+event-keeps b none k few p q r = refl
+event-keeps b (start s i n g) k few p q r =
+    getD-set-other (set b writes 0) book.captures k _ 0 (λ e. omega arith) ∙ getD-set-other b writes k 0 0 p
+event-keeps b (stop s c) k few p q r = refl
+event-keeps b (resume s c) k few p q r = refl
+event-keeps b (dropped s c) k few p q r = getD-set-other b book.dropped k _ 0 (λ e. omega arith)
+event-keeps b (landed s a v) k few p q r = pick-ind (λ (c : List ℕ). noted c k ≡ noted b k) (inArea a) (λ _. touch-keeps b k p q r) (λ _. refl)
+event-keeps b (whole s c v) k few p q r =
+    getD-set-other (more b book.ended) book.whole k _ 0 (λ e. omega arith) ∙ getD-set-other b book.ended k _ 0 (λ e. omega arith)
+event-keeps b (touched s c v n f t) k few p q r = getD-set-other b book.ended k _ 0 (λ e. omega arith)
 
 -- the count of lines
 abbrev Lines : List ℕ → List ℕ → Type 0
@@ -138,32 +160,14 @@ line-lines b f n l =
     pick-ind P (not (eqb n 0)) (λ _. lines-set (more b lines) book.refused _ (λ e. omega arith) ∙ m)
     (λ _. pick-ind P (isRow f) (λ _. lines-set (more b lines) row _ (λ e. omega arith) ∙ m) (λ _. m)))
 
-touch-lines : (b : List ℕ) → Lines b (touchCounted b)
-unfolding touchCounted
-touch-lines b =
-    let x = set b first (pick (eqb (noted b writes) 0) (noted b lines) (noted b first)) in
-    let y = set x last (noted b lines) in
-    lines-set y writes (oneMore (noted y writes)) (λ e. omega arith) ∙ lines-set x last _ (λ e. omega arith) ∙ lines-set b first _ (λ e. omega arith)
-
-event-lines : (b : List ℕ) (e : Event) → Lines b (eventCounted b e)
-unfolding eventCounted
-event-lines b none = refl
-event-lines b (start s i r g) = lines-set (set b writes 0) book.captures _ (λ e. omega arith) ∙ lines-set b writes 0 (λ e. omega arith)
-event-lines b (stop s c) = refl
-event-lines b (resume s c) = refl
-event-lines b (dropped s c) = lines-set b book.dropped _ (λ e. omega arith)
-event-lines b (landed s a v) = pick-ind (Lines b) (inArea a) (λ _. touch-lines b) (λ _. refl)
-event-lines b (whole s c p) = lines-set (more b book.ended) book.whole _ (λ e. omega arith) ∙ lines-set b book.ended _ (λ e. omega arith)
-event-lines b (touched s c p n f t) = lines-set b book.ended _ (λ e. omega arith)
-
-one-more-is : (n : ℕ) → n < 0xFFFFFFFFFFFFFFFF → oneMore n ≡ n + 1
+pub one-more-is : (n : ℕ) → n < 0xFFFFFFFFFFFFFFFF → oneMore n ≡ n + 1
 unfolding oneMore
 one-more-is n h = rw (lt-ltb n 0xFFFFFFFFFFFFFFFF h)
 
-next-lines : (rom : List ℕ) (w : World) (b line : List ℕ) → Long b → noted (auditOf rom w b line .book) lines ≡ oneMore (noted b lines)
+pub next-lines : (rom : List ℕ) (w : World) (b line : List ℕ) → Long b → noted (auditOf rom w b line .book) lines ≡ oneMore (noted b lines)
 unfolding auditOf
 next-lines rom w b line l =
-    event-lines _ (eventOf rom b w (frameOf line)) ∙ line-lines b (frameOf line) (numberSaid (stepOf rom w line .text)) l
+    event-keeps _ (eventOf rom b w (frameOf line)) lines (omega arith) (λ e. omega arith) (λ e. omega arith) (λ e. omega arith) ∙ line-lines b (frameOf line) (numberSaid (stepOf rom w line .text)) l
 
 -- Line numbers: each line is counted, as far as 64 bits go
 pub all-lines : (rom : List ℕ) (ls : List (List ℕ)) (w : World) (b : List ℕ) → Long b → noted b lines + length ls ≤ 0xFFFFFFFFFFFFFFFF
@@ -260,7 +264,7 @@ module _ (rom : List ℕ) (w : World) (b line : List ℕ) (l : Long b) where
     counted-long = long-line b (frameOf line) (numberSaid (stepOf rom w line .text)) l
 
     counted-keeps : (j : ℕ) → 3 < j → j < 7 → noted counted j ≡ noted b j
-    counted-keeps = line-keeps b (frameOf line) (numberSaid (stepOf rom w line .text))
+    counted-keeps j low high = line-keeps b (frameOf line) (numberSaid (stepOf rom w line .text)) j (λ e. omega arith) (λ e. omega arith) (λ e. omega arith) (λ e. omega arith)
 
     counted-lines : noted counted lines ≡ oneMore (noted b lines)
     counted-lines = line-lines b (frameOf line) (numberSaid (stepOf rom w line .text)) l
@@ -496,7 +500,7 @@ pub some-last : (rom : List ℕ) (ls : List (List ℕ)) (w : World) (b : List �
     → noted b writes ≡ 0 → (noted (auditAll rom w b ls .book) writes ≡ 0 → ⊥) → Last rom w b ls (noted (auditAll rom w b ls .book) last)
 some-last rom ls w b l h z some = last-landed rom ls w b l h (λ left e. absurd (some (left-none rom ls w b l h left z))) (λ r. r)
 
-counts-one : (t : Bool) (n : ℕ) → oneMore n ≡ n + 1 → pick t (oneMore n) n ≡ n + pick t 1 0
+pub counts-one : (t : Bool) (n : ℕ) → oneMore n ≡ n + 1 → pick t (oneMore n) n ≡ n + pick t 1 0
 counts-one true n e = e
 counts-one false n e = omega arith
 

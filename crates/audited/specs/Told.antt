@@ -3,6 +3,7 @@ use mathlib.Core.Path.{_≡_}
 use mathlib.Core.Bool.{Bool, true, _&&_}
 use mathlib.Core.List.{List, [], _∷_, _++_}
 use Prim.Native.Nat.{ℕ, _+_, _%_, _≤_}
+use lib.Dec.{eqb}
 use lib.ListN.{length, set}
 use Rattle.laws.specs.Pick.{pick}
 use Rattle.crc.specs.Crc.{crcOf}
@@ -16,8 +17,10 @@ use Rattle.history.specs.History.{World as Found}
 use Rattle.history.specs.Seen.{inArea, landsSeen, heldThrough, AreaLeft, afresh}
 use Rattle.lines.specs.declared.line.Frame.the-variants.{Write}
 use Rattle.lines.specs.Line.{frameOf}
+use Rattle.session.specs.Answer.{numberSaid}
 use Rattle.session.specs.Session.{World, stepOf}
 use Rattle.events.specs.Event.{start, found, callOf, placeOf}
+use Rattle.auditing.specs.Line.{isRow}
 use Rattle.audited.specs.Sessions.{callsOf, leftBy, nextEvent}
 
 -- lines split at one whose event is a start with this serial, and since which a capture is held after each line
@@ -49,8 +52,18 @@ pub record OneBegun {rom : List ℕ} {w : World} {lines : List (List ℕ)} {seri
   pub line : other .line ≡ s .line
   pub since : other .since ≡ s .since
 
+-- a line is answered with 00
+abbrev pub accepted : List ℕ → World → List ℕ → Bool
+accepted rom w line = eqb (numberSaid (stepOf rom w line .text)) 0
+
+-- the number of the last of these lines that lent a row, where so many went before them, of which this one was the last that did
+unfoldable pub lastRow : List ℕ → World → ℕ → ℕ → List (List ℕ) → ℕ
+lastRow rom w n r [] = r
+lastRow rom w n r (line ∷ rest) =
+    lastRow rom (stepOf rom w line .world) (n + 1) (pick (isRow (frameOf line) && accepted rom w line) (n + 1) r) rest
+
 -- what an event with this serial and these cycles tells, after lines and with these more: it has such a start, and one; the image whose checksum
--- the start said is the one lent then; the registers that it said are those in force then, with the new register 0; and the cycles are the counts
+-- the start said is the one lent then, and the row that it said, of lines that 64 bits can number, the last line that lent one; the registers that it said are those in force then, with the new register 0; and the cycles are the counts
 -- since, added up
 pub record Started (rom : List ℕ) (w : World) (lines more : List (List ℕ)) (serial cycles : ℕ) : Type 0 where
   pub begun : Begun rom w lines serial
@@ -59,6 +72,7 @@ pub record Started (rom : List ℕ) (w : World) (lines more : List (List ℕ)) (
   pub byte : ℕ
   pub write : frameOf (begun .line) ≡ Write address byte
   pub checksum : begun .checksum ≡ crcOf (sessionBefore begun .image)
+  pub row : length (begun .before) ≤ 0xFFFFFFFFFFFFFFFF → begun .row ≡ lastRow rom w 0 0 (begun .before)
   pub registers : begun .registers ≡ set (sessionBefore begun .state .registers) 0 (byte % 8)
   pub counts : cycles ≡ countsSince begun more
 

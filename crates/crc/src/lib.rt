@@ -180,3 +180,10 @@ pub fn crc32(bytes: &[u8]) -> u32
 {
     update(0, bytes)
 }
+
+// The checksum of bytes, one at a time: without tables, where their 16,384 bytes of stack would be too many.
+pub fn crc32_small(bytes: &[u8]) -> u32
+    ensures { λ r. ⌜ r ≡ crcOf (now (bytes .entry)) ⌝ }
+{
+    run(0 ^ ONES, bytes) ^ ONES
+}

@@ -6,7 +6,7 @@ use super::book::WRITES;
 use super::sight::Asks;
 use super::sight::Sight;
 use super::sight::place_of;
-use crc::crc32;
+use crc::crc32_small;
 use plates::grey::export;
 ghost use mathlib.Core.Path.{_≡_};
 ghost use mathlib.Core.Bool.{true, _&&_};
@@ -137,7 +137,7 @@ fn plate_sum(ram: &[u8]) -> u32
 {
     let mut file = [0u8; 14351];
     export(ram, &mut file);
-    crc32(&file)
+    crc32_small(&file)
 }
 
 // An end: whole where no bus write landed in the picture area.
@@ -158,7 +158,7 @@ pub fn event_of(kind: Kind, book: &[u64], image: &[u8], ram: &[u8], facts: Facts
 {
     match kind {
         Kind::Nothing => Seen::Nothing,
-        Kind::Start => Seen::Start(facts.next, crc32(image), book[ROW]),
+        Kind::Start => Seen::Start(facts.next, crc32_small(image), book[ROW]),
         Kind::End => end_of(book, facts.serial, facts.cycles, plate_sum(ram)),
         Kind::Drop => Seen::Dropped(facts.serial, facts.cycles),
         Kind::Land => Seen::Landed(facts.serial, facts.place, facts.byte),

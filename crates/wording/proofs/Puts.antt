@@ -2,27 +2,19 @@
 use mathlib.Core.Path.{_≡_, refl, sym, ap, subst, _∙_}
 use mathlib.Core.List.{List, [], _∷_, _++_, append-assoc}
 use Prim.Native.Nat.{ℕ, zero, suc, _+_, _-_, _*_, _/_, _%_, _<_, _≤_}
+use native.Mathlib.Numerals.{add-one}
 use native.Mathlib.Omega.{arith}
 use lib.ListN.{length, set, length-append}
 use borrow.Author.Tests.{lt-ltb, le-ltb}
+use Rattle.laws.proofs.Order.{split}
 use Rattle.lines.specs.Hex.{hexText, placed}
-use Rattle.lines.proofs.Placed.{placed-none, placed-one, placed-next, length-placed}
+use Rattle.lines.proofs.Placed.{placed-last, placed-next, length-placed}
 use Rattle.recording.specs.Record.{rowHex}
 use Rattle.recording.proofs.Written.{length-row}
 use Rattle.wording.specs.Words.{decimalIn, decimal}
 use Rattle.wording.specs.Keys.{endWord, cyclesWord, plateWord}
 use Rattle.wording.specs.Events.{opening, endText}
-use Rattle.wording.specs.Aside.{Put, endBegun}
-
--- no digits
-pub put-none : (out : List ℕ) (at n v : ℕ) → n ≡ 0 → Put out at (decimalIn n v) n out at
-unfolding decimalIn
-put-none out at zero v e = record { text = sym (placed-none out at); end = omega arith; few = omega arith }
-put-none out at (suc n) v e = absurd (omega arith)
-
--- one byte
-pub put-one : (out : List ℕ) (at x : ℕ) → at < length out → Put out at (x ∷ []) 1 (set out at x) (at + 1)
-put-one out at x h = record { text = placed-one out at x h; end = refl; few = omega arith }
+use Rattle.wording.specs.Aside.{Put, countIn, digitsIn, endBegun}
 
 module _ {out t o : List ℕ} {at m a : ℕ} (p : Put out at t m o a) where
   -- more bytes at most
@@ -50,21 +42,64 @@ pub put-after : {out : List ℕ} (t s : List ℕ) {u o o′ : List ℕ} {at m n 
     → Put out at (t ++ s) m o a → (a + n ≤ length o → Put o a u n o′ a′) → at + (m + n) ≤ length out → Put out at (t ++ (s ++ u)) (m + n) o′ a′
 put-after t s {u} p rest room = put-named (put-then p rest room) (append-assoc t s u)
 
--- a number below ten is one digit
-pub put-digit : (out : List ℕ) (at n v : ℕ) → 0 < n → v < 10 → at < length out → Put out at (decimalIn n v) n (set out at (0x30 + v)) (at + 1)
-unfolding decimalIn
-put-digit out at zero v some h fits = absurd (omega arith)
-put-digit out at (suc n) v some h fits = simp (lt-ltb v 10 h) (put-within (put-one out at (0x30 + v) fits) (suc n) (omega arith))
+-- ---- the digits of a number
 
--- any other is its last digit after the others
-pub put-last : (out : List ℕ) (at n v : ℕ) {o : List ℕ} {a : ℕ} → 0 < n → 10 ≤ v → at + n ≤ length out → Put out at (decimalIn (n - 1) (v / 10)) (n - 1) o a
-    → Put out at (decimalIn n v) n (set o a (0x30 + v % 10)) (a + 1)
+-- of none at most there is none
+pub count-none : (n v : ℕ) → n ≡ 0 → countIn n v ≡ 0
+unfolding countIn
+count-none zero v e = refl
+count-none (suc n) v e = absurd (omega arith)
+
+-- one that is below ten has one
+pub count-last : (n v : ℕ) → 0 < n → v < 10 → countIn n v ≡ 1
+unfolding countIn
+count-last zero v some h = absurd (omega arith)
+count-last (suc n) v some h = simp (lt-ltb v 10 h)
+
+same : (n : ℕ) → suc n - 1 ≡ n
+same n = omega arith
+
+-- any other one more than without its last
+pub count-next : (n v : ℕ) → 0 < n → 10 ≤ v → countIn n v ≡ countIn (n - 1) (v / 10) + 1
+unfolding countIn
+count-next zero v some h = absurd (omega arith)
+count-next (suc n) v some h = simp (le-ltb v 10 h) (ap (λ k. countIn k (v / 10) + 1) (sym (same n)))
+
+-- a number is so many of its digits as it has
+digits-all : (n v : ℕ) → decimalIn n v ≡ digitsIn (countIn n v) v
 unfolding decimalIn
-put-last out at zero v some h fits p = absurd (omega arith)
-put-last out at (suc n) v {o} {a} some h fits p =
-    let e : suc n - 1 ≡ n = omega arith in
-    let q : Put out at (decimalIn n (v / 10)) n o a = subst (λ k. Put out at (decimalIn k (v / 10)) k o a) e p in
-    simp (le-ltb v 10 h) (put-within (put-then q (λ room. put-one o a (0x30 + v % 10) (omega arith)) (omega arith)) (suc n) (omega arith))
+digits-all zero v = unfold countIn digitsIn in refl
+digits-all (suc n) v =
+    split v 10
+    (λ h.
+    let e : countIn (suc n) v ≡ 1 = count-last (suc n) v (omega arith) h in
+    let m : v % 10 ≡ v = omega (arith, h) in
+    let d : digitsIn 1 v ≡ (0x30 + v % 10) ∷ [] = unfold digitsIn in refl in
+    simp (lt-ltb v 10 h) (sym (ap (λ k. digitsIn k v) e ∙ d ∙ ap (λ k. (0x30 + k) ∷ []) m)))
+    (λ h.
+    let e : countIn (suc n) v ≡ suc (countIn n (v / 10)) = count-next (suc n) v (omega arith) h ∙ ap (λ k. countIn k (v / 10) + 1) (same n) ∙ add-one (countIn n (v / 10)) in
+    let d : digitsIn (suc (countIn n (v / 10))) v ≡ digitsIn (countIn n (v / 10)) (v / 10) ++ ((0x30 + v % 10) ∷ []) = unfold digitsIn in refl in
+    simp (le-ltb v 10 h) (ap (λ t. t ++ ((0x30 + v % 10) ∷ [])) (digits-all n (v / 10)) ∙ sym (ap (λ k. digitsIn k v) e ∙ d)))
+
+length-digits : (n v : ℕ) → length (digitsIn n v) ≡ n
+unfolding digitsIn
+length-digits zero v = refl
+length-digits (suc n) v = omega (arith, length-append (digitsIn n (v / 10)) ((0x30 + v % 10) ∷ []), length-digits n (v / 10))
+
+-- the last digit first
+pub placed-decimal : (out : List ℕ) (at n v : ℕ) → at + n < length out
+    → placed out at (digitsIn (n + 1) v) ≡ placed (set out (at + n) (0x30 + v % 10)) at (digitsIn n (v / 10))
+unfolding digitsIn
+placed-decimal out at n v h =
+    ap (λ k. placed out at (digitsIn k v)) (add-one n)
+    ∙ placed-last out at (digitsIn n (v / 10)) (0x30 + v % 10) (rw length-digits h)
+    ∙ ap (λ k. placed (set out (at + k) (0x30 + v % 10)) at (digitsIn n (v / 10))) (length-digits n (v / 10))
+
+-- a number put
+pub put-decimal : (out : List ℕ) (at n v k : ℕ) {o : List ℕ} → k ≡ countIn n v → k ≤ n → o ≡ placed out at (digitsIn k v) → Put out at (decimalIn n v) n o (at + k)
+put-decimal out at n v k e few p =
+    let d : digitsIn k v ≡ decimalIn n v = ap (λ j. digitsIn j v) e ∙ sym (digits-all n v) in
+    record { text = p ∙ ap (placed out at) d; end = ap (λ j. at + j) (sym (length-digits k v) ∙ ap length d); few = omega arith }
 
 -- bytes, two digits each
 pub put-row : (out : List ℕ) (at : ℕ) (bytes : List ℕ) {o : List ℕ} (n : ℕ) → 2 * length bytes ≡ n → o ≡ placed out at (rowHex bytes) → Put out at (rowHex bytes) n o (at + n)

@@ -1,9 +1,11 @@
 -- Aside: devices of contracts between functions. Nothing here need be believed: every use of it is tied by a proof to the definitions beside it.
 -- What the functions promise of a text that they put into a buffer. Assumes nothing.
 use mathlib.Core.Path.{_≡_}
-use mathlib.Core.List.{List, _++_}
-use Prim.Native.Nat.{ℕ, _+_, _≤_}
+use mathlib.Core.List.{List, [], _∷_, _++_}
+use Prim.Native.Nat.{ℕ, zero, suc, _+_, _/_, _%_, _≤_}
+use lib.Dec.{ltb}
 use lib.ListN.{length}
+use Rattle.laws.specs.Pick.{pick}
 use Rattle.lines.specs.Hex.{hexText, placed}
 use Rattle.recording.specs.Record.{rowHex}
 use Rattle.wording.specs.Words.{decimal}
@@ -15,6 +17,16 @@ pub record Put (out : List ℕ) (at : ℕ) (words : List ℕ) (most : ℕ) (out�
   pub text : out′ ≡ placed out at words
   pub end : at′ ≡ at + length words
   pub few : at′ ≤ at + most
+
+-- how many decimal digits a number has, of n at most
+unfoldable pub countIn : ℕ → ℕ → ℕ
+countIn zero v = 0
+countIn (suc n) v = pick (ltb v 10) 1 (countIn n (v / 10) + 1)
+
+-- so many decimal digits of a number
+unfoldable pub digitsIn : ℕ → ℕ → List ℕ
+digitsIn zero v = []
+digitsIn (suc n) v = digitsIn n (v / 10) ++ ((0x30 + v % 10) ∷ [])
 
 -- an event up to its serial
 abbrev pub begun : List ℕ → ℕ → ℕ → List ℕ

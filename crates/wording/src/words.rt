@@ -1,11 +1,12 @@
 // Words, decimal numbers and digits, put into a lent buffer. Each function returns the place after what it put.
 use lines::hex::put_digits;
+ghost use mathlib.Core.Path.{_≡_};
 ghost use mathlib.Core.List.{_++_};
 ghost use Prim.Native.Nat.{_+_, _≤_};
 ghost use lib.ListN.{length};
-ghost use Rattle.lines.specs.Hex.{hexText};
-ghost use Rattle.wording.specs.Words.{decimalIn, decimal};
-ghost use Rattle.wording.specs.Aside.{Put};
+ghost use Rattle.lines.specs.Hex.{hexText, placed};
+ghost use Rattle.wording.specs.Words.{decimal};
+ghost use Rattle.wording.specs.Aside.{Put, countIn, digitsIn};
 
 // Puts a word: its bytes.
 pub fn put_word(out: &mut [u8], at: usize, word: &[u8]) -> usize
@@ -20,21 +21,34 @@ pub fn put_word(out: &mut [u8], at: usize, word: &[u8]) -> usize
     at + i
 }
 
-// Puts a number in at most so many decimal digits.
-fn put_decimal(out: &mut [u8], at: usize, digits: usize, v: u64) -> usize
-    requires { ⌜ at + digits ≤ length (now out) ⌝ }
-    ensures { λ r. ⌜ Put (now (out .entry)) at (decimalIn digits v) digits (now (out .exit)) r ⌝ }
+// How many decimal digits a number has, of so many at most.
+fn count_digits(most: usize, v: u64) -> usize
+    ensures { λ r. ⌜ (r ≡ countIn most v) × (r ≤ most) ⌝ }
 {
-    if digits == 0 {
-        return at;
+    let mut n = 0;
+    let mut rest = v;
+    while n < most {
+        n += 1;
+        if rest < 10 {
+            return n;
+        }
+        rest /= 10;
     }
-    if v < 10 {
-        out[at] = b'0' + v as u8;
-        return at + 1;
+    n
+}
+
+// Puts so many decimal digits of a number into a buffer, the last digit first.
+fn put_decimal(out: &mut [u8], at: usize, digits: usize, v: u64)
+    requires { ⌜ at + digits ≤ length (now out) ⌝ }
+    ensures { λ _. ⌜ now (out .exit) ≡ placed (now (out .entry)) at (digitsIn digits v) ⌝ }
+{
+    let mut k = digits;
+    let mut rest = v;
+    while 0 < k {
+        k -= 1;
+        out[at + k] = b'0' + (rest % 10) as u8;
+        rest /= 10;
     }
-    let end = put_decimal(out, at, digits - 1, v / 10);
-    out[end] = b'0' + (v % 10) as u8;
-    end + 1
 }
 
 // Puts a decimal number without leading zeros.
@@ -42,7 +56,9 @@ pub fn put_number(out: &mut [u8], at: usize, n: u64) -> usize
     requires { ⌜ at + 20 ≤ length (now out) ⌝ }
     ensures { λ r. ⌜ Put (now (out .entry)) at (decimal n) 20 (now (out .exit)) r ⌝ }
 {
-    put_decimal(out, at, 20, n)
+    let digits = count_digits(20, n);
+    put_decimal(out, at, digits, n);
+    at + digits
 }
 
 // Puts a value in so many hexadecimal digits.

@@ -14,8 +14,8 @@ enum-told c = search needs
 enum-told-2 : tie.Need-enum-told-2
 enum-told-2 c = search needs
 
-crc32-requires : tie.Need-crc32-requires
-crc32-requires c κs = search needs
+crc32-small-requires : tie.Need-crc32-small-requires
+crc32-small-requires c κs = search needs
 
 shared-slice-read-t9 : tie.Need-shared-slice-read-t9
 shared-slice-read-t9 c = search needs
@@ -47,7 +47,7 @@ returns c = λ regs. ap (λ (k : Kind). eventBy (c .before .before .before .befo
 
 returns-2 : tie.Need-returns-2
 unfolding eventBy eventFrom
-returns-2 c = λ regs. (λ i. start (c .before .before .before .before .before .before .before .args .facts .next) (c .before .crc32 .ensures i) (getD (c .before .before .before .before .before .before .before .args .book .now) 3 0) regs) ∙ ap (λ (k : Kind). eventBy (c .before .before .before .before .before .before .before .args .book .now) (c .before .before .before .before .before .before .before .args .image .now) (c .before .before .before .before .before .before .before .args .ram .now) regs (c .before .before .before .before .before .before .before .args .facts) k) (sym (c .before .before .enum-told2 .given .1))
+returns-2 c = λ regs. (λ i. start (c .before .before .before .before .before .before .before .args .facts .next) (c .before .crc32-small .ensures i) (getD (c .before .before .before .before .before .before .before .args .book .now) 3 0) regs) ∙ ap (λ (k : Kind). eventBy (c .before .before .before .before .before .before .before .args .book .now) (c .before .before .before .before .before .before .before .args .image .now) (c .before .before .before .before .before .before .before .args .ram .now) regs (c .before .before .before .before .before .before .before .args .facts) k) (sym (c .before .before .enum-told2 .given .1))
 
 returns-3 : tie.Need-returns-3
 unfolding eventBy eventFrom
@@ -75,7 +75,7 @@ event-of-spec =
     (tie.spec
     enum-told
     enum-told-2
-    crc32-requires
+    crc32-small-requires
     shared-slice-read-t9
     enum-told-3
     plate-sum-requires

@@ -14,16 +14,16 @@ slice-aggregate-export c = search needs
 export-requires : tie.Need-export-requires
 export-requires c κs = search needs
 
-slice-aggregate-crc32 : tie.Need-slice-aggregate-crc32
-slice-aggregate-crc32 c = search needs
+slice-aggregate-crc32-small : tie.Need-slice-aggregate-crc32-small
+slice-aggregate-crc32-small c = search needs
 
-crc32-requires : tie.Need-crc32-requires
-crc32-requires c κs = search needs
+crc32-small-requires : tie.Need-crc32-small-requires
+crc32-small-requires c κs = search needs
 
 returns : tie.Need-returns
-returns c = c .crc32 .ensures ∙ ap crcOf (plate-file _ _ _ _ _ (c .before .before .before .before .before .before .pre) (length-replicate {A = ℕ} 14351 0) (c .before .before .before .export .ensures))
+returns c = c .crc32-small .ensures ∙ ap crcOf (plate-file _ _ _ _ _ (c .before .before .before .before .before .before .pre) (length-replicate {A = ℕ} 14351 0) (c .before .before .before .export .ensures))
 
 pub plate-sum-spec : {M : Type 1} → statement M
 plate-sum-spec =
     tie.close
-    (tie.spec slice-aggregate-export export-requires slice-aggregate-crc32 crc32-requires returns)
+    (tie.spec slice-aggregate-export export-requires slice-aggregate-crc32-small crc32-small-requires returns)
