@@ -32,8 +32,11 @@ long s h = record-parts s h .long
 pub part-at : (s : List ℕ) → isRecord s ≡ true → take (length s - 67) (drop 67 s) ≡ registersAt s 67
 part-at s h = ap (λ (n : ℕ). take (n - 67) (drop 67 s)) (long s h)
 
+pub taken-long : (s : List ℕ) → isRecord s ≡ true → length (registersAt s 67) ≡ 54
+taken-long s h = length-take-le 54 (drop 67 s) (simp length-drop (omega (arith, long s h)))
+
 pub part-long : (s : List ℕ) → isRecord s ≡ true → length (take (length s - 67) (drop 67 s)) ≡ 54
-part-long s h = ap length (part-at s h) ∙ length-take-le 54 (drop 67 s) (simp length-drop (omega (arith, long s h)))
+part-long s h = ap length (part-at s h) ∙ taken-long s h
 
 module _ (s : List ℕ) where
   -- register 0

@@ -43,7 +43,7 @@ ghost use Rattle.cartridge.specs.Calls.{readMeans, wrote, writeMeans};
 ghost use Rattle.layout.specs.Layout.{isRecord, decoded, encoded};
 ghost use Rattle.calls.specs.Aside.{effect, inBytes};
 
-// Whether the record can exist. The registers taken are all that stands from 67 on.
+// Whether the record can exist. The registers taken are lent with their number, which is then known where they are looked at.
 fn exists(state: &[u8]) -> bool
     requires { ⌜ isRecord (now state) ≡ true ⌝ }
     ensures { λ r. ⌜ r ≡ canExist (decoded (now (state .entry))) ⌝ }
@@ -55,7 +55,7 @@ fn exists(state: &[u8]) -> bool
         state[13],
         state[4] == 1,
         elapsed,
-        &state[67..],
+        &state[67..121],
     )
 }
 

@@ -18,11 +18,8 @@ use Rattle.lines.specs.Hex.{placed}
 use Rattle.session.specs.Session.{World, Step, step, stepOf}
 use Rattle.session.specs.Aside.{Printed}
 use Rattle.session.proofs.Steps.{drop-zeros}
-use Rattle.script.specs.Pieces.{Ends, Reading, Feeding, feeding, lineEnded, lineKept, byteKept, byteRead, fed, readerOf, heldBy, opened, feedMeans, lastLine, finishMeans}
+use Rattle.script.specs.Pieces.{Ends, Going, Reading, Feeding, reading, feeding, lineEnded, lineKept, byteKept, byteRead, fed, readerOf, heldBy, opened, feedMeans, lastLine, finishMeans}
 use Rattle.lines.proofs.Placed.{placed-none, placed-next, take-placed}
-
-abbrev pub reading : World → List ℕ → List ℕ → ℕ → Reading
-reading w line text used = record { world = w; line = line; text = text; used = used }
 
 pub reading-alike : (w w′ : World) (line : List ℕ) (t t′ : List ℕ) (used : ℕ) → w ≡ w′ → t ≡ t′ → reading w line t used ≡ reading w′ line t′ used
 reading-alike w w′ line t t′ used p q = cc
@@ -66,15 +63,6 @@ leaving w out i at r = record { world = w; reader = r; used = i; written = at; o
 -- what a piece is from byte i on
 next : (piece : List ℕ) (i : ℕ) → i < length piece → drop i piece ≡ getD piece i 0 ∷ drop (i + 1) piece
 next piece i h = drop-cons piece i 0 h ∙ ap (λ k. getD piece i 0 ∷ drop k piece) (sym (add-one i))
-
--- after i bytes of a piece: what is left from here is the whole from the start, and what is written is what was printed
-pub record Going (rom : List ℕ) (start : Reading) (out₀ piece : List ℕ) (w : World) (line out : List ℕ) (at i : ℕ) : Type 0 where
-  pub inside : i ≤ length piece
-  pub room : at ≤ length out
-  pub few : length line ≤ 261
-  pub same : length out ≡ length out₀
-  pub text : out ≡ placed out₀ 0 (take at out)
-  pub rest : fed rom (length out₀) (reading w line (take at out) i) (drop i piece) ≡ fed rom (length out₀) start piece
 
 pub going-start : (rom out piece : List ℕ) (w : World) (line : List ℕ) → length line ≤ 261 → Going rom (reading w line [] 0) out piece w line out 0 0
 going-start rom out piece w line h = record {

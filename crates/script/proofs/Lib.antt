@@ -4,3 +4,4 @@ pub mod Whole
 pub mod Loop
 pub mod Only
 pub mod Replayed
+pub mod Moves

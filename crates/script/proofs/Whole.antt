@@ -20,10 +20,10 @@ use Rattle.lines.specs.Line.{frameOf}
 use Rattle.session.specs.Answer.{answerText}
 use Rattle.session.specs.Session.{World, Step, step, refused, frameStep, stepOf}
 use Rattle.script.specs.Text.{begins, linesOf, after, played, sessionOf}
-use Rattle.script.specs.Pieces.{Reading, lineEnded, lineKept, byteKept, byteRead, readAll, noRoom, fed, readerOf, newReader, heldBy, opened, lastLine, finishMeans, inPieces, joined}
+use Rattle.script.specs.Pieces.{Reading, reading, lineEnded, lineKept, byteKept, byteRead, readAll, noRoom, fed, readerOf, newReader, heldBy, opened, lastLine, finishMeans, inPieces, joined}
 use Rattle.lines.proofs.Digits.{and-false}
 use Rattle.lines.proofs.Frames.{too-long}
-use Rattle.script.proofs.Feeds.{reading, kept-more, few-kept}
+use Rattle.script.proofs.Feeds.{kept-more, few-kept}
 
 cases {ℓ} : {X : Type ℓ} (t : Bool) → (t ≡ true → X) → (t ≡ false → X) → X
 cases true f g = f refl

@@ -5,7 +5,7 @@ use mathlib.Core.Bool.{Bool, _&&_}
 use mathlib.Core.List.{List, [], _∷_, _++_}
 use Prim.Native.Nat.{ℕ, _+_, _-_, _<_, _≤_, min}
 use lib.Dec.{eqb, ltb}
-use lib.ListN.{length, getD, take, replicate}
+use lib.ListN.{length, getD, take, drop, replicate}
 use Rattle.laws.specs.Pick.{pick}
 use Rattle.script.specs.declared.text.Reader.{Reader}
 use Rattle.script.specs.declared.text.Fed.{Fed}
@@ -19,6 +19,9 @@ pub record Reading : Type 0 where
   pub line : List ℕ
   pub text : List ℕ
   pub used : ℕ
+
+abbrev pub reading : World → List ℕ → List ℕ → ℕ → Reading
+reading w line text used = record { world = w; line = line; text = text; used = used }
 
 -- LF ends the line that is held
 unfoldable pub lineEnded : List ℕ → Reading → Reading
@@ -117,3 +120,19 @@ pub record Ends (piece : List ℕ) (from end : ℕ) : Type 0 where
   pub inside : end ≤ length piece
   pub none : (k : ℕ) → from ≤ k → k < end → getD piece k 0 ≡ 0x0A → ⊥
   pub found : end < length piece → getD piece end 0 ≡ 0x0A
+
+-- after i bytes of a piece: what is left from here is the whole from the start, and what is written is what was printed
+pub record Going (rom : List ℕ) (start : Reading) (out₀ piece : List ℕ) (w : World) (line out : List ℕ) (at i : ℕ) : Type 0 where
+  pub inside : i ≤ length piece
+  pub room : at ≤ length out
+  pub few : length line ≤ 261
+  pub same : length out ≡ length out₀
+  pub text : out ≡ placed out₀ 0 (take at out)
+  pub rest : fed rom (length out₀) (reading w line (take at out) i) (drop i piece) ≡ fed rom (length out₀) start piece
+
+-- lines are carried out and answered from one place of a piece to another: whatever was going on at the first, with no line begun, goes on at the second
+pub record Moves (rom piece : List ℕ) (w : World) (out : List ℕ) (at i : ℕ) (w′ : World) (out′ : List ℕ) (at′ i′ : ℕ) : Type 0 where
+  pub onward : i ≤ i′
+  pub inside : i′ ≤ length piece
+  pub room : at′ ≤ length out
+  pub going : (start : Reading) (out₀ : List ℕ) → Going rom start out₀ piece w [] out at i → Going rom start out₀ piece w′ [] out′ at′ i′

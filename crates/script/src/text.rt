@@ -1,4 +1,5 @@
 // A text to its answers, read in pieces that may be cut anywhere.
+use super::short::short_lines;
 use controller::Controller;
 use layout::decode;
 use session::answer::ANSWER;
@@ -180,7 +181,9 @@ pub fn feed(
             at,
         );
         held = 0;
-        i = end + 1;
+        let place = short_lines(&mut bytes, rom, ram, store, image, piece, end + 1, out, at);
+        i = place.from;
+        at = place.at;
         end = line_end(piece, i);
     }
     held = hold(&mut line, held, &piece[i..end]);

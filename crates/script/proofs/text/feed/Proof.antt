@@ -9,8 +9,8 @@ use borrow.Author.Needs.{needs}
 use Rattle.layout.specs.Layout.{isRecord, decoded}
 use Rattle.layout.proofs.Inverse.{record-parts}
 use Rattle.session.specs.Session.{world}
-use Rattle.script.specs.Pieces.{Ends, readerOf, feedMeans}
-use Rattle.script.proofs.Feeds.{Going, reading, leaving, going-start, going-on, going-line, going-done, goes-on, few-held, held-on, begun}
+use Rattle.script.specs.Pieces.{Ends, Going, reading, readerOf, feedMeans}
+use Rattle.script.proofs.Feeds.{leaving, going-start, going-on, going-line, going-done, goes-on, few-held, held-on, begun}
 use Rattle.script.proofs.text.feed.Statement.{statement}
 use Rattle.script.proofs.text.feed.Tie as tie
 
@@ -65,31 +65,44 @@ part-end-line-end c = c .before .before .before .before .before .before .before 
 end-line-requires : tie.Need-end-line-requires Inv-loop μ-loop
 end-line-requires c κs =
     let l = c .before .before .before .before .before .before .before .before .before .loop in
-    let t = goes-on (c .before .before .before .before .before .before .before .before .before .loop .end) (length (c .before .before .before .before .before .before .before .before .before .before .before .before .before .before .before .before .before .before .before .before .args .piece .now)) (length (c .before .before .before .before .before .before .before .before .before .loop .out) - (c .before .before .before .before .before .before .before .before .before .loop .at)) (c .before .before .before .before .before .before .before .before .answered .result) (c .before .before .before .before .before .before .before .before .answered .ensures) (c .before .before .before .before .before .before .before .if1 .taken) in
+    let t = goes-on (c .before .before .before .before .before .before .before .before .before .loop .end) (length (c .before .before .before .before .before .before .before .before .before .before .before .before .before .before .before .before .before .before .before .before .args .piece .now)) (length (c .before .before .before .before .before .before .before .before .before .loop .out) - c .before .before .before .before .before .before .before .before .before .loop .at) (c .before .before .before .before .before .before .before .before .answered .result) (c .before .before .before .before .before .before .before .before .answered .ensures) (c .before .before .before .before .before .before .before .if1 .taken) in
     (l .inv .7, l .inv .3, l .inv .4, omega (arith, t .1))
 
-add-i : tie.Need-add-i Inv-loop μ-loop
-add-i c = omega (arith, c .before .before .before .before .before .before .before .before .before .before .before .before .before .before .before .before .before .before .before .before .before .before .before .before .before .before .before .before .before .before .before, goes-on (c .before .before .before .before .before .before .before .before .before .before .before .before .before .before .before .before .before .before .before .before .loop .end) (length (c .before .before .before .before .before .before .before .before .before .before .before .before .before .before .before .before .before .before .before .before .before .before .before .before .before .before .before .before .before .before .before .args .piece .now)) (length (c .before .before .before .before .before .before .before .before .before .before .before .before .before .before .before .before .before .before .before .before .loop .out) - (c .before .before .before .before .before .before .before .before .before .before .before .before .before .before .before .before .before .before .before .before .loop .at)) (c .before .before .before .before .before .before .before .before .before .before .before .before .before .before .before .before .before .before .before .answered .result) (c .before .before .before .before .before .before .before .before .before .before .before .before .before .before .before .before .before .before .before .answered .ensures) (c .before .before .before .before .before .before .before .before .before .before .before .before .before .before .before .before .before .before .if1 .taken) .0)
+slice-aggregate-short-lines : tie.Need-slice-aggregate-short-lines Inv-loop μ-loop
+slice-aggregate-short-lines c = sym (record-parts _ (c .before .before .before .before .before .before .before .before .before .before .before .end-line .ensures .1) .long)
+
+add-short-lines : tie.Need-add-short-lines Inv-loop μ-loop
+add-short-lines c = omega (arith, c .before .before .before .before .before .before .before .before .before .before .before .before .before .before .before .before .before .before .before .before .before .before .before .before .before .before .before .before .before .before .before .before .before .before .before, goes-on (c .before .before .before .before .before .before .before .before .before .before .before .before .before .before .before .before .before .before .before .before .before .before .before .before .loop .end) (length (c .before .before .before .before .before .before .before .before .before .before .before .before .before .before .before .before .before .before .before .before .before .before .before .before .before .before .before .before .before .before .before .before .before .before .before .args .piece .now)) (length (c .before .before .before .before .before .before .before .before .before .before .before .before .before .before .before .before .before .before .before .before .before .before .before .before .loop .out) - c .before .before .before .before .before .before .before .before .before .before .before .before .before .before .before .before .before .before .before .before .before .before .before .before .loop .at) (c .before .before .before .before .before .before .before .before .before .before .before .before .before .before .before .before .before .before .before .before .before .before .before .answered .result) (c .before .before .before .before .before .before .before .before .before .before .before .before .before .before .before .before .before .before .before .before .before .before .before .answered .ensures) (c .before .before .before .before .before .before .before .before .before .before .before .before .before .before .before .before .before .before .before .before .before .before .if1 .taken) .0)
+
+short-lines-requires : tie.Need-short-lines-requires Inv-loop μ-loop
+short-lines-requires c κs =
+    let t = goes-on (c .before .before .before .before .before .before .before .before .before .before .before .before .before .before .before .before .before .before .before .before .before .before .before .before .before .loop .end) (length (c .before .before .before .before .before .before .before .before .before .before .before .before .before .before .before .before .before .before .before .before .before .before .before .before .before .before .before .before .before .before .before .before .before .before .before .before .args .piece .now)) (length (c .before .before .before .before .before .before .before .before .before .before .before .before .before .before .before .before .before .before .before .before .before .before .before .before .before .loop .out) - c .before .before .before .before .before .before .before .before .before .before .before .before .before .before .before .before .before .before .before .before .before .before .before .before .before .loop .at) (c .before .before .before .before .before .before .before .before .before .before .before .before .before .before .before .before .before .before .before .before .before .before .before .before .answered .result) (c .before .before .before .before .before .before .before .before .before .before .before .before .before .before .before .before .before .before .before .before .before .before .before .before .answered .ensures) (c .before .before .before .before .before .before .before .before .before .before .before .before .before .before .before .before .before .before .before .before .before .before .before .if1 .taken) in
+    let d = c .before .before .before .before .before .before .before .before .before .before .before .before .before .before .before .end-line in
+    (d .ensures .1, omega (arith, t .0), omega (arith, t .1, d .ensures .0 .most, d .kept .1 .1 .1 .1 .1 .1 .1 .1 .0))
 
 line-end-requires-2 : tie.Need-line-end-requires-2 Inv-loop μ-loop
-line-end-requires-2 c κs = omega (arith, goes-on (c .before .before .before .before .before .before .before .before .before .before .before .before .before .before .before .before .before .before .before .before .loop .end) (length (c .before .before .before .before .before .before .before .before .before .before .before .before .before .before .before .before .before .before .before .before .before .before .before .before .before .before .before .before .before .before .before .args .piece .now)) (length (c .before .before .before .before .before .before .before .before .before .before .before .before .before .before .before .before .before .before .before .before .loop .out) - (c .before .before .before .before .before .before .before .before .before .before .before .before .before .before .before .before .before .before .before .before .loop .at)) (c .before .before .before .before .before .before .before .before .before .before .before .before .before .before .before .before .before .before .before .answered .result) (c .before .before .before .before .before .before .before .before .before .before .before .before .before .before .before .before .before .before .before .answered .ensures) (c .before .before .before .before .before .before .before .before .before .before .before .before .before .before .before .before .before .before .if1 .taken) .0)
+line-end-requires-2 c κs = c .before .before .before .before .before .before .before .before .before .short-lines .ensures .0 .inside
 
 loop-less : tie.Need-loop-less Inv-loop μ-loop
-loop-less c = omega (arith, c .line-end2 .ensures .after, goes-on (c .before .before .before .before .before .before .before .before .before .before .before .before .before .before .before .before .before .before .before .before .before .loop .end) (length (c .before .before .before .before .before .before .before .before .before .before .before .before .before .before .before .before .before .before .before .before .before .before .before .before .before .before .before .before .before .before .before .before .args .piece .now)) (length (c .before .before .before .before .before .before .before .before .before .before .before .before .before .before .before .before .before .before .before .before .before .loop .out) - (c .before .before .before .before .before .before .before .before .before .before .before .before .before .before .before .before .before .before .before .before .before .loop .at)) (c .before .before .before .before .before .before .before .before .before .before .before .before .before .before .before .before .before .before .before .before .answered .result) (c .before .before .before .before .before .before .before .before .before .before .before .before .before .before .before .before .before .before .before .before .answered .ensures) (c .before .before .before .before .before .before .before .before .before .before .before .before .before .before .before .before .before .before .before .if1 .taken) .0)
+loop-less c =
+    let t = goes-on (c .before .before .before .before .before .before .before .before .before .before .before .before .before .before .before .before .before .before .before .before .before .before .before .before .before .before .before .before .before .before .before .before .before .before .before .before .loop .end) (length (c .before .before .before .before .before .before .before .before .before .before .before .before .before .before .before .before .before .before .before .before .before .before .before .before .before .before .before .before .before .before .before .before .before .before .before .before .before .before .before .before .before .before .before .before .before .before .before .args .piece .now)) (length (c .before .before .before .before .before .before .before .before .before .before .before .before .before .before .before .before .before .before .before .before .before .before .before .before .before .before .before .before .before .before .before .before .before .before .before .before .loop .out) - c .before .before .before .before .before .before .before .before .before .before .before .before .before .before .before .before .before .before .before .before .before .before .before .before .before .before .before .before .before .before .before .before .before .before .before .before .loop .at) (c .before .before .before .before .before .before .before .before .before .before .before .before .before .before .before .before .before .before .before .before .before .before .before .before .before .before .before .before .before .before .before .before .before .before .before .answered .result) (c .before .before .before .before .before .before .before .before .before .before .before .before .before .before .before .before .before .before .before .before .before .before .before .before .before .before .before .before .before .before .before .before .before .before .before .answered .ensures) (c .before .before .before .before .before .before .before .before .before .before .before .before .before .before .before .before .before .before .before .before .before .before .before .before .before .before .before .before .before .before .before .before .before .before .if1 .taken) in
+    omega (arith, c .line-end2 .ensures .after, c .before .before .before .before .before .before .before .before .before .before .short-lines .ensures .0 .onward, t .0)
 
 loop-again : tie.Need-loop-again Inv-loop μ-loop
 loop-again c =
-    let l = c .before .before .before .before .before .before .before .before .before .before .before .before .before .before .before .before .before .before .before .before .before .loop in
-    let t = goes-on (c .before .before .before .before .before .before .before .before .before .before .before .before .before .before .before .before .before .before .before .before .before .loop .end) (length (c .before .before .before .before .before .before .before .before .before .before .before .before .before .before .before .before .before .before .before .before .before .before .before .before .before .before .before .before .before .before .before .before .args .piece .now)) (length (c .before .before .before .before .before .before .before .before .before .before .before .before .before .before .before .before .before .before .before .before .before .loop .out) - (c .before .before .before .before .before .before .before .before .before .before .before .before .before .before .before .before .before .before .before .before .before .loop .at)) (c .before .before .before .before .before .before .before .before .before .before .before .before .before .before .before .before .before .before .before .before .answered .result) (c .before .before .before .before .before .before .before .before .before .before .before .before .before .before .before .before .before .before .before .before .answered .ensures) (c .before .before .before .before .before .before .before .before .before .before .before .before .before .before .before .before .before .before .before .if1 .taken) in
-    let d = c .before .before .before .before .before .before .before .before .before .before .before .end-line in (
-      d .kept .1 .1 .0 ∙ l .inv .0,
-      d .kept .1 .1 .1 .0 ∙ l .inv .1,
-      d .kept .1 .1 .1 .1 .0 ∙ l .inv .2,
+    let l = c .before .before .before .before .before .before .before .before .before .before .before .before .before .before .before .before .before .before .before .before .before .before .before .before .before .before .before .before .before .before .before .before .before .before .before .before .loop in
+    let t = goes-on (c .before .before .before .before .before .before .before .before .before .before .before .before .before .before .before .before .before .before .before .before .before .before .before .before .before .before .before .before .before .before .before .before .before .before .before .before .loop .end) (length (c .before .before .before .before .before .before .before .before .before .before .before .before .before .before .before .before .before .before .before .before .before .before .before .before .before .before .before .before .before .before .before .before .before .before .before .before .before .before .before .before .before .before .before .before .before .before .before .args .piece .now)) (length (c .before .before .before .before .before .before .before .before .before .before .before .before .before .before .before .before .before .before .before .before .before .before .before .before .before .before .before .before .before .before .before .before .before .before .before .before .loop .out) - c .before .before .before .before .before .before .before .before .before .before .before .before .before .before .before .before .before .before .before .before .before .before .before .before .before .before .before .before .before .before .before .before .before .before .before .before .loop .at) (c .before .before .before .before .before .before .before .before .before .before .before .before .before .before .before .before .before .before .before .before .before .before .before .before .before .before .before .before .before .before .before .before .before .before .before .answered .result) (c .before .before .before .before .before .before .before .before .before .before .before .before .before .before .before .before .before .before .before .before .before .before .before .before .before .before .before .before .before .before .before .before .before .before .before .answered .ensures) (c .before .before .before .before .before .before .before .before .before .before .before .before .before .before .before .before .before .before .before .before .before .before .before .before .before .before .before .before .before .before .before .before .before .before .if1 .taken) in
+    let d = c .before .before .before .before .before .before .before .before .before .before .before .before .before .before .before .before .before .before .before .before .before .before .before .before .before .before .end-line in
+    let p = c .before .before .before .before .before .before .before .before .before .before .short-lines in
+    let first = going-line _ _ _ _ _ _ _ _ _ (going-on _ _ _ _ _ _ _ _ _ _ (l .inv .6) (l .inv .5)) (t .0) (l .inv .5 .found (t .0)) (omega (arith, t .1)) _ _ _ (d .ensures .0) (d .kept .1 .1 .1 .1 .1 .1 .1 .1 .0) in (
+      p .kept .1 .1 .0 ∙ d .kept .1 .1 .0 ∙ l .inv .0,
+      p .kept .1 .1 .1 .0 ∙ d .kept .1 .1 .1 .0 ∙ l .inv .1,
+      p .kept .1 .1 .1 .1 .0 ∙ d .kept .1 .1 .1 .1 .0 ∙ l .inv .2,
       d .kept .1 .1 .1 .1 .1 .0 ∙ l .inv .3,
       omega arith,
       c .line-end2 .ensures,
-      going-line _ _ _ _ _ _ _ _ _ (going-on _ _ _ _ _ _ _ _ _ _ (l .inv .6) (l .inv .5)) (t .0) (l .inv .5 .found (t .0)) (omega (arith, t .1)) _ _ _ (d .ensures .0) (d .kept .1 .1 .1 .1 .1 .1 .1 .1 .0),
-      d .ensures .1,
+      p .ensures .0 .going _ _ first,
+      p .ensures .1,
     )
 
 slice-aggregate-hold : tie.Need-slice-aggregate-hold Inv-loop μ-loop
@@ -161,7 +174,9 @@ feed-spec =
     part-end-line-start
     part-end-line-end
     end-line-requires
-    add-i
+    slice-aggregate-short-lines
+    add-short-lines
+    short-lines-requires
     line-end-requires-2
     loop-less
     loop-again
