@@ -141,7 +141,7 @@ fn put_rows(pixels: &[u8], weights: &[u8; 128], area: &mut [u8])
         let low = row.low;
         let high = row.high;
         for t in 0..16 {
-            let o = 16 * (16 * (y / 8) + t) + 2 * (y % 8);
+            let o = tiles::pair_at(t, y);
             let p = o + 1;
             area[o] = low[t];
             area[p] = high[t];
