@@ -1,10 +1,10 @@
 -- The ranges that the filters keep. Assumes nothing.
 use mathlib.Core.Bool.{true, false}
 use mathlib.Core.List.{List}
-use mathlib.Core.Path.{_≡_, refl, ap, _∙_}
+use mathlib.Core.Path.{_≡_}
 use Prim.Native.Nat.{ℕ, _<_}
 use native.Mathlib.Omega.{arith}
-use borrow.Author.Tests.{ltb-false, ne-eqb}
+use borrow.Author.Tests.{ltb-false}
 use lib.IntN.{ℤ, pos, negsuc}
 use lib.Signed.{mag, ltZ}
 use mir.Syntax.{Width}
@@ -12,9 +12,9 @@ use mir.Val.{SFits, toZ, ofZ}
 use mir.Facts.{toZ-ofZ}
 use lib.Dec.{eqb, ltb, lit<}
 use Rattle.laws.proofs.Table.{at}
-use Rattle.laws.proofs.Pick.{pick-ind, never}
-use Rattle.filters.specs.Edge.{between, held, nine, Small, mode2, mode3, modeC, modeD, modeE, modeF, edgeOf}
-use Rattle.filters.specs.Aside.{isPlain}
+use Rattle.laws.proofs.Pick.{pick-ind}
+use Rattle.filters.specs.Edge.{between, held, mode2, mode3, modeC, modeD, modeE, modeF, edgeOf}
+use Rattle.filters.specs.Aside.{Small}
 
 -- ---- what is held
 
@@ -35,14 +35,6 @@ held-small (pos n) = pick-ind (λ z. mag z < 128) (ltb 127 n) (λ e. lit< tt) (�
 held-small (negsuc n) = pick-ind (λ z. mag z < 128) (ltb 127 n) (λ e. lit< tt) (λ e. omega (arith, ltb-false 127 n e))
 
 -- ---- step 4
-
--- modes 0 and 4 to B are P as it is
-pub edge-plain : (mode q : ℕ) (n : List (List ℤ)) → isPlain mode ≡ true → edgeOf mode q n ≡ nine n 1 1
-unfolding edgeOf
-edge-plain mode q n h = simp (no 0x1 refl, no 0x2 refl, no 0x3 refl, no 0xC refl, no 0xD refl, no 0xE refl, no 0xF refl)
-  where
-    no : (k : ℕ) → isPlain k ≡ false → eqb mode k ≡ false
-    no k f = ne-eqb mode k (λ e. never h (ap isPlain e ∙ f))
 
 -- the value of any mode lies in −128..127
 module _ (n : List (List ℤ)) (s : Small n) (mode q : ℕ) where

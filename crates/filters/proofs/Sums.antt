@@ -11,8 +11,8 @@ use lib.Signed.{mag}
 use mir.Syntax.{Width, w8, w16, w32, w64, w128}
 use mir.Val.{SFits, hbits, toZ, ofZ}
 use Rattle.laws.proofs.Signed.{E, val, sub, mul, within, abs-mag, got}
-use Rattle.filters.specs.Edge.{held, nine, Small, acrossOf, uprightOf, aroundOf}
-use Rattle.filters.specs.Aside.{SmallRow, threeIn, nineIn}
+use Rattle.filters.specs.Edge.{held, nine, acrossOf, uprightOf, aroundOf}
+use Rattle.filters.specs.Aside.{SmallRow, threeIn, nineIn, Small}
 use Rattle.filters.proofs.Facts.{held-small}
 
 module _ (n : List (List ℤ)) (s : Small n) where

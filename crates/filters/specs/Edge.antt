@@ -1,8 +1,8 @@
 -- From light to shade, step 4: the edge filters. Assumes nothing.
 use mathlib.Core.List.{List, []}
-use Prim.Native.Nat.{ℕ, _+_, _-_, _<_}
+use Prim.Native.Nat.{ℕ, _+_, _-_}
 use lib.IntN.{ℤ, pos, negsuc, _+ℤ_, _-ℤ_, _*ℤ_}
-use lib.Signed.{mag, ltZ, quotZ}
+use lib.Signed.{ltZ, quotZ}
 use lib.Dec.{eqb}
 use lib.ListN.{getD}
 use Rattle.laws.specs.Pick.{pick}
@@ -18,10 +18,6 @@ held v = between (negsuc 127) (pos 127) v
 -- the nine signed values around a pixel, three rows of three: the one in row i, column j
 abbrev pub nine : List (List ℤ) → ℕ → ℕ → ℤ
 nine n i j = getD (getD n i []) j (pos 0)
-
--- each of them lies in −128..127
-abbrev pub Small : List (List ℤ) → Type 0
-Small n = (i j : ℕ) → mag (nine n i j) < 128
 
 -- 2P − W − E
 abbrev pub acrossOf : List (List ℤ) → ℤ

@@ -4,8 +4,8 @@ ghost use Prim.Native.Nat.{_+_, _-_, _/_, _<_, _≤_};
 ghost use lib.IntN.{pos, natAbs};
 ghost use lib.Signed.{nonNeg, quotZ};
 ghost use Rattle.laws.specs.Pick.{pick};
-ghost use Rattle.filters.specs.Edge.{held, Small, acrossOf, uprightOf, aroundOf, enhanced, extracted, mode2, mode3, modeC, modeD, modeE, modeF, edgeOf};
-ghost use Rattle.filters.specs.Aside.{SmallRow, threeIn, nineIn, isPlain};
+ghost use Rattle.filters.specs.Edge.{held, acrossOf, uprightOf, aroundOf, enhanced, extracted, mode2, mode3, modeC, modeD, modeE, modeF};
+ghost use Rattle.filters.specs.Aside.{SmallRow, threeIn, nineIn, Small};
 
 // Held to -128..127.
 pub fn hold(v: i32) -> i32
@@ -152,34 +152,4 @@ pub fn mode_f(quarters: u8, n: [[i32; 3]; 3]) -> i32
 {
     let m = narrow(n);
     hold_16(extract(quarters, around(m))) as i32
-}
-
-// Step 4: the value by the mode.
-pub fn edge(mode: u8, quarters: u8, n: [[i32; 3]; 3]) -> i32
-    requires { ⌜ (quarters ≤ 20) × Small n ⌝ }
-    ensures { λ r. ⌜ r ≡ edgeOf mode quarters n ⌝ }
-{
-    match mode {
-        0x1 => 0,
-        0x2 => mode_2(quarters, n),
-        0x3 => mode_3(quarters, n),
-        0xC => mode_c(quarters, n),
-        0xD => mode_d(quarters, n),
-        0xE => mode_e(quarters, n),
-        0xF => mode_f(quarters, n),
-        _ => n[1][1],
-    }
-}
-
-// Modes 0 and 4 to B give P as it is.
-pub fn plain(mode: u8) -> bool
-    ensures { λ r. ⌜ r ≡ isPlain mode ⌝ }
-{
-    if mode == 0 {
-        return true;
-    }
-    if mode < 4 {
-        return false;
-    }
-    mode < 12
 }

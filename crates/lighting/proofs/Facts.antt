@@ -13,7 +13,8 @@ use lib.Dec.{T, eqb, eqb→eq, ltb, ltb→lt, lit≤}
 use Rattle.laws.proofs.Table.{at}
 use Rattle.laws.proofs.Pick.{pick-ind}
 use Rattle.lighting.specs.declared.Setting.{Setting}
-use Rattle.lighting.specs.Taken.{alphas, quartersOf, settingOf, Sane}
+use Rattle.lighting.specs.Taken.{alphas, quartersOf, settingOf}
+use Rattle.lighting.specs.Aside.{Sane}
 use Rattle.lighting.specs.Light.{adaptedZ, adapted, exposed, turned, lightOf}
 
 -- ---- the adaptation

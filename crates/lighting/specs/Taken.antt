@@ -1,8 +1,7 @@
 -- What the registers taken ask of every pixel. Assumes nothing.
-use mathlib.Core.Path.{_≡_}
 use mathlib.Core.Bool.{Bool}
 use mathlib.Core.List.{List, [], _∷_}
-use Prim.Native.Nat.{ℕ, _+_, _*_, _/_, _%_, _≤_}
+use Prim.Native.Nat.{ℕ, _+_, _*_, _/_, _%_}
 use lib.ListN.{getD}
 use Rattle.laws.specs.Bits.{isSet}
 use Rattle.lighting.specs.declared.Setting.{Setting}
@@ -40,12 +39,3 @@ settingOf regs = record {
   quarters = quartersOf regs;
   kind = kindOf regs;
 }
-
--- the range that the quarters lie in, whatever the registers hold
-pub record Sane (set : Setting) : Type 0 where
-  pub quarters : set .quarters ≤ 20
-
--- a setting is what the registers ask, and in its range
-pub record Asked (set : Setting) (regs : List ℕ) : Type 0 where
-  pub same : set ≡ settingOf regs
-  pub sane : Sane set

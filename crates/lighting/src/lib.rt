@@ -2,7 +2,8 @@
 ghost use mathlib.Core.Path.{_≡_};
 ghost use Prim.Native.Nat.{_+_, _-_, _/_, _%_, _<_};
 ghost use lib.ListN.{length, getD};
-ghost use Rattle.lighting.specs.Taken.{exposureOf, alphas, Asked};
+ghost use Rattle.lighting.specs.Taken.{exposureOf, alphas};
+ghost use Rattle.lighting.specs.Aside.{Asked};
 ghost use Rattle.lighting.specs.Light.{adapted, exposed, turned, lightOf, lightFrame};
 
 // What the registers taken ask of every pixel, worked out once.
@@ -31,8 +32,8 @@ fn quarters_of(byte: u8) -> u8
     ALPHAS[(byte / 16 % 8) as usize]
 }
 
-// The exposure of the registers.
-fn exposure_of(regs: &[u8]) -> u16
+// The exposure of the registers: A002 * 256 + A003.
+pub fn exposure_of(regs: &[u8]) -> u16
     requires { ⌜ length (now regs) ≡ 54 ⌝ }
     ensures { λ r. ⌜ r ≡ exposureOf (now (regs .entry)) ⌝ }
 {
@@ -96,7 +97,7 @@ pub fn expose(exposure: u16, v: u8) -> u8
 }
 
 // Steps 1 to 3, before 128 is subtracted.
-pub fn light(set: Setting, v: u8) -> u8
+fn light(set: Setting, v: u8) -> u8
     ensures { λ r. ⌜ r ≡ lightOf set v ⌝ }
 {
     turn(set.inverted, expose(set.exposure, adapt(v)))

@@ -11,28 +11,37 @@ ghost use mathlib.Core.Path.{_≡_};
 ghost use mathlib.Core.Bool.{true};
 ghost use mathlib.Core.List.{[]};
 ghost use Prim.Native.Nat.{_+_, _*_, _%_, _<_, _≤_};
-ghost use lib.ListN.{length};
+ghost use lib.Dec.{eqb};
+ghost use lib.ListN.{length, getD};
 ghost use Rattle.laws.specs.Lists.{listed};
 ghost use Rattle.shades.specs.Aside.{weightOf};
 ghost use Rattle.controller.specs.Outcome.{verdictNumber, writeNumber, outcome};
 ghost use Rattle.controller.specs.Table.{lowest};
-ghost use Rattle.placing.specs.Placing.{hasHeader, isGrey, onlyGreys, isPlate, placedArea, placeRows, placeMeans};
+ghost use Rattle.placing.specs.Placing.{each, hasHeader, isGrey, onlyGreys, isPlate, placedArea, placeRows, placeMeans};
 ghost use Rattle.placing.specs.Aside.{lowsAt, highsAt, weighed, weighedAt, sumAt, Weighed};
 
 // The end of the picture area in RAM bank 0.
 const END: usize = 0xF00;
 
-// Whether a file starts with the header.
-fn has_header(file: &[u8]) -> bool
-    requires { ⌜ 15 ≤ length (now file) ⌝ }
-    ensures { λ r. ⌜ r ≡ hasHeader (now (file .entry)) ⌝ }
+// Whether a file begins with some bytes.
+pub fn begins(file: &[u8], head: &[u8]) -> bool
+    requires { ⌜ length (now head) ≤ length (now file) ⌝ }
+    ensures { λ r. ⌜ r ≡ each (λ k. eqb (getD (now (file .entry)) k 0) (getD (now (head .entry)) k 0)) (length (now (head .entry))) ⌝ }
 {
-    for k in 0..15 {
-        if file[k] != HEADER[k] {
+    for k in 0..head.len() {
+        if file[k] != head[k] {
             return false;
         }
     }
     true
+}
+
+// Whether a file begins with the header.
+fn has_header(file: &[u8]) -> bool
+    requires { ⌜ 15 ≤ length (now file) ⌝ }
+    ensures { λ r. ⌜ r ≡ hasHeader (now (file .entry)) ⌝ }
+{
+    begins(file, &HEADER)
 }
 
 // Whether a byte is one of the four greys: 85 times what its two lowest bits say.
@@ -141,7 +150,7 @@ fn put_rows(pixels: &[u8], weights: &[u8; 128], area: &mut [u8])
         let low = row.low;
         let high = row.high;
         for t in 0..16 {
-            let o = 16 * (16 * (y / 8) + t) + 2 * (y % 8);
+            let o = tiles::pair_at(t, y);
             let p = o + 1;
             area[o] = low[t];
             area[p] = high[t];

@@ -16,7 +16,7 @@ ghost use mathlib.Core.List.{_++_};
 ghost use Prim.Native.Nat.{ℕ, _+_, _/_, _%_, _≤_};
 ghost use lib.ListN.{length, drop};
 ghost use Rattle.laws.specs.Lists.{listed};
-ghost use Rattle.lighting.specs.Taken.{Sane};
+ghost use Rattle.lighting.specs.Aside.{Sane};
 ghost use Rattle.lighting.specs.Light.{byteAt};
 ghost use Rattle.sensor.specs.Shade.{valueAt};
 ghost use Rattle.controller.specs.Outcome.{verdictNumber};

@@ -12,7 +12,8 @@ use Rattle.laws.proofs.Filled.{Filled, filled-more}
 use Rattle.laws.proofs.Signed.{got}
 use Rattle.filters.specs.Edge.{edgeOf}
 use Rattle.filters.proofs.Facts.{edge-small}
-use Rattle.rows.specs.Aside.{Nine, raisedOf, pixelBy}
+use Rattle.sensor.specs.Aside.{Nine}
+use Rattle.rows.specs.Aside.{raisedOf, pixelBy}
 
 -- of the nine values n the filter of `mode` made m
 module _ (mode q : ℕ) {lit : ℕ → ℕ → ℕ} {x row : ℕ} {n : List (List ℤ)} {m : ℤ} (around : Nine lit x row n) (ok : mag m < 2 ^ hbits w32) (made : m ≡ edgeOf mode q n) where

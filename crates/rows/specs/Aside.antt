@@ -9,7 +9,7 @@ use lib.IntN.{ℤ, pos, natAbs, _+ℤ_}
 use lib.ListN.{length, getD}
 use Rattle.laws.specs.Lists.{listed}
 use Rattle.lighting.specs.declared.Setting.{Setting}
-use Rattle.filters.specs.Edge.{Small, edgeOf}
+use Rattle.filters.specs.Edge.{edgeOf}
 use Rattle.sensor.specs.Nine.{nineOf}
 use Rattle.sensor.specs.Row.{passes}
 use Rattle.sensor.specs.Shade.{valueAt}
@@ -25,11 +25,6 @@ asksBelow set = passes (set .mode) && ltb 1 (set .kind)
 -- the mode passes it, and its kind is 0: it asks for the negative
 unfoldable pub negates : Setting → Bool
 negates set = passes (set .mode) && eqb (set .kind) 0
-
--- the nine values around a pixel, each in −128..127
-pub record Nine (lit : ℕ → ℕ → ℕ) (x row : ℕ) (n : List (List ℤ)) : Type 0 where
-  pub same : n ≡ nineOf lit x row
-  pub small : Small n
 
 -- a value with 128 added
 unfoldable pub raisedOf : ℤ → ℕ

@@ -1,24 +1,16 @@
 // From light to shade, steps 4 and 5, a row at a time: the values of a row of the sensor, from a store of lit values. Step 4 values are kept as
 // bytes, 128 added to each; where the 1-D filter asks for the row below, a row's are worked out once and carried on to the next row.
-use filters::edge;
 use lighting::Setting;
+use sensor::nine;
 use sensor::passing;
 ghost use mathlib.Core.Path.{_≡_};
 ghost use Prim.Native.Nat.{_+_, _<_, _≤_};
 ghost use lib.ListN.{length};
 ghost use lib.Signed.{mag};
 ghost use Rattle.laws.specs.Lists.{listed};
-ghost use Rattle.lighting.specs.Taken.{Sane};
+ghost use Rattle.lighting.specs.Aside.{Sane};
 ghost use Rattle.lighting.specs.Light.{Inside, byteAt};
-ghost use Rattle.rows.specs.Aside.{valueRow, asksBelow, negates, raisedOf, Nine, pixelBy, rowBy, lessOf, lessRow, negativeRow, Carried};
-
-// The nine values around a pixel, with their bounds.
-fn nine(store: &[u8], x: usize, row: usize) -> [[i32; 3]; 3]
-    requires { ⌜ Inside (length (now store)) x row 8 120 ⌝ }
-    ensures { λ r. ⌜ Nine (byteAt (now (store .entry))) x row r ⌝ }
-{
-    sensor::nine(store, x, row)
-}
+ghost use Rattle.rows.specs.Aside.{valueRow, asksBelow, negates, raisedOf, rowBy, lessOf, lessRow, negativeRow, Carried};
 
 // A value with 128 added.
 fn raise(v: i32) -> u8
@@ -28,26 +20,17 @@ fn raise(v: i32) -> u8
     (v + 128) as u8
 }
 
-// The step 4 value of one pixel by any mode, with 128 added.
-fn pixel(store: &[u8], mode: u8, quarters: u8, x: usize, row: usize) -> u8
-    requires { ⌜ Inside (length (now store)) x row 8 120 ⌝ }
-    requires { ⌜ quarters ≤ 20 ⌝ }
-    ensures { λ r. ⌜ r ≡ pixelBy mode quarters (byteAt (now (store .entry))) row x ⌝ }
-{
-    raise(edge(mode, quarters, nine(store, x, row)))
-}
-
-// A row of them, by mode: one loop in which nothing is asked of the mode, the columns at the two edges apart.
+// A row of step 4 values with 128 added, by mode: one loop in which nothing is asked of the mode, the columns at the two edges apart.
 fn row_2(store: &[u8], quarters: u8, row: usize, out: &mut [u8])
     requires { ⌜ Inside (length (now store)) 0 row 8 120 ⌝ }
     requires { ⌜ (quarters ≤ 20) × (length (now out) ≡ 128) ⌝ }
     ensures { λ _. ⌜ now (out .exit) ≡ rowBy 0x2 quarters (byteAt (now (store .entry))) row ⌝ }
 {
-    out[0] = pixel(store, 0x2, quarters, 0, row);
+    out[0] = raise(filters::mode_2(quarters, nine(store, 0, row)));
     for x in 1..127 {
         out[x] = raise(filters::mode_2(quarters, nine(store, x, row)));
     }
-    out[127] = pixel(store, 0x2, quarters, 127, row);
+    out[127] = raise(filters::mode_2(quarters, nine(store, 127, row)));
 }
 
 fn row_3(store: &[u8], quarters: u8, row: usize, out: &mut [u8])
@@ -55,11 +38,11 @@ fn row_3(store: &[u8], quarters: u8, row: usize, out: &mut [u8])
     requires { ⌜ (quarters ≤ 20) × (length (now out) ≡ 128) ⌝ }
     ensures { λ _. ⌜ now (out .exit) ≡ rowBy 0x3 quarters (byteAt (now (store .entry))) row ⌝ }
 {
-    out[0] = pixel(store, 0x3, quarters, 0, row);
+    out[0] = raise(filters::mode_3(quarters, nine(store, 0, row)));
     for x in 1..127 {
         out[x] = raise(filters::mode_3(quarters, nine(store, x, row)));
     }
-    out[127] = pixel(store, 0x3, quarters, 127, row);
+    out[127] = raise(filters::mode_3(quarters, nine(store, 127, row)));
 }
 
 // Modes C and D ask nothing of the columns beside a pixel, so that no column stands apart.
@@ -88,11 +71,11 @@ fn row_e(store: &[u8], quarters: u8, row: usize, out: &mut [u8])
     requires { ⌜ (quarters ≤ 20) × (length (now out) ≡ 128) ⌝ }
     ensures { λ _. ⌜ now (out .exit) ≡ rowBy 0xE quarters (byteAt (now (store .entry))) row ⌝ }
 {
-    out[0] = pixel(store, 0xE, quarters, 0, row);
+    out[0] = raise(filters::mode_e(quarters, nine(store, 0, row)));
     for x in 1..127 {
         out[x] = raise(filters::mode_e(quarters, nine(store, x, row)));
     }
-    out[127] = pixel(store, 0xE, quarters, 127, row);
+    out[127] = raise(filters::mode_e(quarters, nine(store, 127, row)));
 }
 
 fn row_f(store: &[u8], quarters: u8, row: usize, out: &mut [u8])
@@ -100,11 +83,11 @@ fn row_f(store: &[u8], quarters: u8, row: usize, out: &mut [u8])
     requires { ⌜ (quarters ≤ 20) × (length (now out) ≡ 128) ⌝ }
     ensures { λ _. ⌜ now (out .exit) ≡ rowBy 0xF quarters (byteAt (now (store .entry))) row ⌝ }
 {
-    out[0] = pixel(store, 0xF, quarters, 0, row);
+    out[0] = raise(filters::mode_f(quarters, nine(store, 0, row)));
     for x in 1..127 {
         out[x] = raise(filters::mode_f(quarters, nine(store, x, row)));
     }
-    out[127] = pixel(store, 0xF, quarters, 127, row);
+    out[127] = raise(filters::mode_f(quarters, nine(store, 127, row)));
 }
 
 // Mode 1 is 0 always.

@@ -14,6 +14,7 @@ use controller::judge::refused_if;
 use crc::crc32;
 use layout::STATE_LEN;
 use layout::four_at;
+use placing::begins;
 use timing::ram_allowed;
 ghost use mathlib.Core.Path.{_≡_};
 ghost use mathlib.Core.Bool.{Bool, not, _&&_};
@@ -45,12 +46,7 @@ fn has_magic(file: &[u8]) -> bool
     requires { ⌜ 6 ≤ length (now file) ⌝ }
     ensures { λ r. ⌜ r ≡ hasMagic (now (file .entry)) ⌝ }
 {
-    for k in 0..6 {
-        if file[k] != MAGIC[k] {
-            return false;
-        }
-    }
-    true
+    begins(file, &MAGIC)
 }
 
 // Whether the number at a place is the checksum of all before it.

@@ -13,10 +13,11 @@ use Rattle.laws.proofs.Pick.{pick-ind}
 use Rattle.laws.proofs.Signed.{sub-ind, abs-mag}
 use Rattle.lighting.specs.declared.Setting.{Setting}
 use Rattle.lighting.specs.Taken.{settingOf}
-use Rattle.filters.specs.Edge.{Small}
+use Rattle.filters.specs.Aside.{Small}
 use Rattle.sensor.specs.Nine.{signedAt, threeOf, nineOf, step4}
 use Rattle.sensor.specs.Row.{passes, rowFilter, step5}
 use Rattle.sensor.specs.Shade.{valueAt, element, shadeOf, shadeAt}
+use Rattle.sensor.specs.Aside.{Nine}
 use Rattle.filters.proofs.Facts.{held-small, edge-small}
 
 -- ---- signed values
@@ -42,12 +43,15 @@ module _ (lit : ℕ → ℕ → ℕ) (bytes : (x row : ℕ) → lit x row < 256)
   three-small x row (suc (suc zero)) = signed-small _ _
   three-small x row (suc (suc (suc j))) = lit< tt
 
-  pub nine-small : (x row : ℕ) → Small (nineOf lit x row)
+  nine-small : (x row : ℕ) → Small (nineOf lit x row)
   unfolding nineOf
   nine-small x row zero j = three-small x _ j
   nine-small x row (suc zero) j = three-small x _ j
   nine-small x row (suc (suc zero)) j = three-small x _ j
   nine-small x row (suc (suc (suc i))) j = lit< tt
+
+  pub nine-bound : (x row : ℕ) {n : List (List ℤ)} → n ≡ nineOf lit x row → Nine lit x row n
+  nine-bound x row e = record { same = e; small = rw e (nine-small x row) }
 
   module _ (set : Setting) (x row : ℕ) where
     pub step4-small : mag (step4 lit set x row) < 128

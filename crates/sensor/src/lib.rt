@@ -1,18 +1,17 @@
 // From light to shade, steps 4 to 6: one pixel's value and shade, from a store of lit values and the registers taken.
-use filters::edge;
 use filters::hold;
-use filters::plain;
 use lighting::Setting;
 ghost use mathlib.Core.Path.{_≡_};
 ghost use Prim.Native.Nat.{_+_, _-_, _%_, _<_, _≤_};
 ghost use lib.IntN.{pos, _-ℤ_};
 ghost use lib.ListN.{length, getD};
 ghost use Rattle.laws.specs.Pick.{pick};
-ghost use Rattle.lighting.specs.Taken.{Sane, Asked};
+ghost use Rattle.lighting.specs.Aside.{Sane, Asked};
 ghost use Rattle.lighting.specs.Light.{Inside, byteAt};
-ghost use Rattle.sensor.specs.Nine.{leftOf, rightOf, signedAt, threeOf, nineOf, step4};
+ghost use Rattle.sensor.specs.Nine.{leftOf, rightOf, signedAt, threeOf, step4};
 ghost use Rattle.sensor.specs.Row.{passes, step5};
-ghost use Rattle.sensor.specs.Shade.{valueAt, shadeOf, pixelAt};
+ghost use Rattle.sensor.specs.Shade.{valueAt, shadeOf};
+ghost use Rattle.sensor.specs.Aside.{Nine, pixelAt};
 
 // The places in the store of the columns beside one, from the place of that one; beyond the left and the right edge of the sensor the edge is
 // repeated. Worked out so, rather than from the row and a column beside, a loop over columns becomes vector code also where an address has 32 bits.
@@ -68,7 +67,7 @@ fn three(store: &[u8], x: usize, row: usize) -> [i32; 3]
 // The nine signed values around a pixel, three rows of three: of a pixel of the picture, or of the one below it.
 pub fn nine(store: &[u8], x: usize, row: usize) -> [[i32; 3]; 3]
     requires { ⌜ Inside (length (now store)) x row 8 120 ⌝ }
-    ensures { λ r. ⌜ r ≡ nineOf (byteAt (now (store .entry))) x row ⌝ }
+    ensures { λ r. ⌜ Nine (byteAt (now (store .entry))) x row r ⌝ }
 {
     [
         three(store, x, row - 1),
@@ -77,20 +76,24 @@ pub fn nine(store: &[u8], x: usize, row: usize) -> [[i32; 3]; 3]
     ]
 }
 
-// The step 4 value of a pixel. The nine values are worked out only where a filter asks for them.
+// The step 4 value of a pixel, by the table of modes. The nine values are worked out only where a filter asks for them.
 fn step_4(store: &[u8], set: Setting, x: usize, row: usize) -> i32
     requires { ⌜ Inside (length (now store)) x row 8 120 ⌝ }
     requires { ⌜ Sane set ⌝ }
     ensures { λ r. ⌜ r ≡ step4 (byteAt (now (store .entry))) set x row ⌝ }
 {
     let mode = set.mode;
-    if mode == 1 {
-        return 0;
+    let quarters = set.quarters;
+    match mode {
+        0x1 => 0,
+        0x2 => filters::mode_2(quarters, nine(store, x, row)),
+        0x3 => filters::mode_3(quarters, nine(store, x, row)),
+        0xC => filters::mode_c(quarters, nine(store, x, row)),
+        0xD => filters::mode_d(quarters, nine(store, x, row)),
+        0xE => filters::mode_e(quarters, nine(store, x, row)),
+        0xF => filters::mode_f(quarters, nine(store, x, row)),
+        _ => signed_at(store, x, row),
     }
-    if plain(mode) {
-        return signed_at(store, x, row);
-    }
-    edge(mode, set.quarters, nine(store, x, row))
 }
 
 // Modes 0, 2 and 3 pass the 1-D filter.
@@ -127,7 +130,7 @@ fn step_5(store: &[u8], set: Setting, x: usize, row: usize) -> i32
 }
 
 // The pixel's value, 0 to 255.
-pub fn value(store: &[u8], set: Setting, x: usize, row: usize) -> u8
+fn value(store: &[u8], set: Setting, x: usize, row: usize) -> u8
     requires { ⌜ Inside (length (now store)) x row 8 119 ⌝ }
     requires { ⌜ Sane set ⌝ }
     ensures { λ r. ⌜ r ≡ valueAt (byteAt (now (store .entry))) set x row ⌝ }

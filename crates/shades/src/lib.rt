@@ -96,7 +96,7 @@ fn put_rows(ram: &[u8], weights: &[u8; 128], low: u8, high: u8, negative: bool, 
     ensures { λ _. ⌜ now (pixels .exit) ≡ listed (toneNth low high negative (now (ram .entry))) 14336 ⌝ }
 {
     for y in 0..112 {
-        let at = tiles::PICTURE + 256 * (y / 8) + 2 * (y % 8);
+        let at = tiles::PICTURE + tiles::pair_at(0, y);
         let mut l = [0u8; 128];
         let mut h = [0u8; 128];
         spread(ram, at, &mut l, &mut h);

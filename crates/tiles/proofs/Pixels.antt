@@ -10,7 +10,8 @@ use Rattle.laws.specs.Bits.{bitOf, putBit}
 use Rattle.laws.proofs.Order.{split}
 use Rattle.laws.proofs.BitLaws.{put-bit-same, put-bit-other, put-byte}
 use Rattle.sensor.specs.declared.Pixel.{Pixel}
-use Rattle.sensor.specs.Shade.{shadeAt, pixelAt}
+use Rattle.sensor.specs.Shade.{shadeAt}
+use Rattle.sensor.specs.Aside.{pixelAt}
 use Rattle.sensor.proofs.Facts.{shade-small}
 use Rattle.tiles.specs.Tiles.{place, putAt, shadeIn, Bytes}
 use Rattle.tiles.specs.Picture.{pictureShade}

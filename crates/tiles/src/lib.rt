@@ -5,7 +5,7 @@ ghost use mathlib.Core.Path.{_≡_};
 ghost use Prim.Native.Nat.{ℕ, _+_, _*_, _/_, _%_, _<_, _≤_};
 ghost use lib.ListN.{length};
 ghost use Rattle.laws.specs.Bits.{putBit};
-ghost use Rattle.lighting.specs.Taken.{Asked};
+ghost use Rattle.lighting.specs.Aside.{Asked};
 ghost use Rattle.lighting.specs.Light.{byteAt};
 ghost use Rattle.rows.specs.Aside.{Carried};
 ghost use Rattle.strips.specs.Aside.{spreadOf};
@@ -30,12 +30,20 @@ fn put_bit(b: u8, bit: u8, v: u8) -> u8
     (b & !w) | (v << bit)
 }
 
+// Where the two bytes of eight pixels of picture row y stand, those from column 8 * t on, from the picture's first byte on.
+pub fn pair_at(t: usize, y: usize) -> usize
+    requires { ⌜ (t < 16) × (y < 112) ⌝ }
+    ensures { λ r. ⌜ r ≡ 16 * (16 * (y / 8) + t) + 2 * (y % 8) ⌝ }
+{
+    16 * (16 * (y / 8) + t) + 2 * (y % 8)
+}
+
 // Puts a pixel of the picture: the shade's low bit in one byte, its high bit in the next.
 fn put_pixel(ram: &mut [u8], x: usize, y: usize, shade: u8)
     requires { ⌜ (x < 128) × (y < 112) × (shade < 4) × (8192 ≤ length (now ram)) ⌝ }
     ensures { λ _. ⌜ now (ram .exit) ≡ putAt (now (ram .entry)) x y shade ⌝ }
 {
-    let low = PICTURE + 16 * (16 * (y / 8) + x / 8) + 2 * (y % 8);
+    let low = PICTURE + pair_at(x / 8, y);
     let high = low + 1;
     let bit = (7 - x % 8) as u8;
     let a = put_bit(ram[low], bit, shade % 2);
@@ -160,7 +168,7 @@ fn put_line(
     let mut high = [0u8; 16];
     strips::shade_row(&values, matrix, regs, y + 8, &mut low, &mut high);
     for t in 0..16 {
-        let o = at + 16 * (16 * (y / 8) + t) + 2 * (y % 8);
+        let o = at + pair_at(t, y);
         let p = o + 1;
         out[o] = low[t];
         out[p] = high[t];
@@ -208,7 +216,7 @@ fn put_row(ram: &mut [u8], store: &[u8], set: Setting, regs: &[u8], j: usize)
     let t = j % 128 / 8;
     let y = j / 128;
     let row = tile_row(store, set, regs, t, y);
-    let o = PICTURE + 16 * (16 * (y / 8) + t) + 2 * (y % 8);
+    let o = PICTURE + pair_at(t, y);
     let p = o + 1;
     ram[o] = row.low;
     ram[p] = row.high;

@@ -98,12 +98,12 @@ impl Cycles {
     }
 }
 
-// Exposure = A002 * 256 + A003.
+// The exposure of the registers, with its bound.
 fn exposure(regs: &[u8]) -> u32
     requires { ⌜ length (now regs) ≡ 54 ⌝ }
     ensures { λ r. ⌜ (r ≡ exposureOf (now (regs .entry))) × (r < 65536) ⌝ }
 {
-    wide(regs[2]) * 256 + wide(regs[3])
+    lighting::exposure_of(regs) as u32
 }
 
 // N, bit 7 of A001, is set.

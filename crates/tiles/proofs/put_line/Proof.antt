@@ -19,8 +19,9 @@ abbrev μ-loop : tie.MeasureT-loop
 
 loop-again : tie.Need-loop-again Inv-loop μ-loop
 loop-again c =
-    let l = c .before .loop in
-    let s = c .before .before .before .before in
+    let p = c .before in
+    let l = p .before .loop in
+    let s = p .before .before .before .before in
     let n = s .before .before .before .before .before .before .before in
     let b = n .before .before .before .before .before .before in
     let lit = byteAt (b .args .store .now) in
@@ -31,7 +32,7 @@ loop-again c =
     let q = b .pre .1 .0 .same in (
       omega arith,
       simp length-set (l .inv .1),
-      pair-stored lit regs (b .args .at) (l .out) (l .t) y _ _ _ (omega arith) refl (low-made lit regs (b .args .set) q (l .t) y (omega arith) v (e .0)) (high-made lit regs (b .args .set) q (l .t) y (omega arith) v (e .1)) ∙ ap (putPair lit regs (b .args .at) (16 * y + l .t)) (l .inv .2) ∙ sym (pairs-more lit regs (b .args .at) (16 * y) (l .t) (b .args .out .now)),
+      pair-stored lit regs (b .args .at) (l .out) (l .t) y _ _ _ (omega arith) (omega (arith, c .pair-at .ensures)) (low-made lit regs (b .args .set) q (l .t) y (omega arith) v (e .0)) (high-made lit regs (b .args .set) q (l .t) y (omega arith) v (e .1)) ∙ ap (putPair lit regs (b .args .at) (16 * y + l .t)) (l .inv .2) ∙ sym (pairs-more lit regs (b .args .at) (16 * y) (l .t) (b .args .out .now)),
     )
 
 returns : tie.Need-returns Inv-loop μ-loop
@@ -53,11 +54,7 @@ put-line-spec =
     (λ c. search needs)
     (λ c κs. search needs)
     (λ c. (omega arith, refl, sym (pairs-none _ _ _ _ _)))
-    (λ c. omega arith)
-    (λ c. omega arith)
-    (λ c. omega arith)
-    (λ c. omega arith)
-    (λ c. omega arith)
+    (λ c κs. search needs)
     (λ c. omega arith)
     (λ c. omega arith)
     (λ c. omega arith)
