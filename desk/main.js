@@ -21,12 +21,14 @@ let storage = null;
 /** The desk that this one took the place of, as it is kept. */
 let before = null;
 let run = null;
+/** The pixel of the plate that the person has pointed at. */
+let pointed = null;
 
 // ---- what is shown
 
 /** Shows the plate as chosen, as a slider moves. */
 function showPreview() {
-  const { plate, readings } = desk.preview();
+  const { plate, readings } = desk.image ? desk.preview() : {};
   drawPlate(element("preview"), plate);
   drawPlate(element("preview-readings"), readings);
 }
@@ -61,9 +63,10 @@ function showCapture() {
   const { held, elapsed, total } = desk.capture();
   drawPlate(element("plate"), desk.plate());
   drawPlate(element("readings"), desk.readings);
+  showPoint();
   element("progress").max = held ? total : 1;
   element("progress").value = held ? elapsed : 0;
-  element("cycles").textContent = held ? `${number(elapsed)} of ${number(total)}` : "none: no capture is held";
+  element("cycles").textContent = held ? `${number(elapsed)} of ${number(total)}` : "none, no capture is held";
   element("take").disabled = held || !desk.image;
   element("stop").disabled = !run;
   element("resume").disabled = !held || run !== null;
@@ -71,6 +74,14 @@ function showCapture() {
   element("place").disabled = held;
   element("back").hidden = !before;
   element("base").hidden = !desk.base;
+}
+
+/** Shows the shade and the reading of the pixel pointed at. */
+function showPoint() {
+  if (!pointed) return;
+  const { x, y } = pointed;
+  const reading = desk.readings ? `, reading ${readingAt(desk.readings, x, y)}` : "";
+  element("point").textContent = `Column ${x}, row ${y}: ${SHADES[desk.shades()[128 * y + x]]}${reading}`;
 }
 
 /** Shows the four answers about the plate, from the audit of everything done here. */
@@ -292,9 +303,9 @@ function listen() {
   onClick("base", "The RAM was not written", () => download("recording.sav", desk.base));
   onFile("open", "was not audited", open);
 
-  pointing(element("plate"), ({ x, y }) => {
-    const reading = desk.readings ? `, reading ${readingAt(desk.readings, x, y)}` : "";
-    element("point").textContent = `Column ${x}, row ${y}: ${SHADES[desk.shades()[128 * y + x]]}${reading}`;
+  pointing(element("plate"), (place) => {
+    pointed = place;
+    showPoint();
   });
 }
 

@@ -1,6 +1,6 @@
 // The desk's state: one cartridge, the specimen lent to it, the choice, and everything done to it as a recording.
 
-import { FRAME_BYTES, PICTURE_OFFSET, RAM_BANK } from "../bindings/js/gulxinett.js";
+import { PICTURE_OFFSET, RAM_BANK } from "../bindings/js/gulxinett.js";
 import { auditOf } from "./audit.js";
 import { crc32 } from "./files.js";
 
@@ -136,7 +136,7 @@ export class Desk {
   preview() {
     const scratch = this.#scratch;
     scratch.reset();
-    scratch.lend(this.image ?? new Uint8Array(FRAME_BYTES));
+    scratch.lend(this.image);
     scratch.write(SELECT, REGISTERS_SHOWN);
     scratch.write(TRIGGER, STANDING);
     scratch.choose(this.choice);

@@ -63,7 +63,7 @@ def leaf(x, y):
     return (150 + y // 3, 140 + y // 3, 120 + y // 3)
 
 
-BEETLE, SHEET = pixels(beetle), pixels(leaf)
+BEETLE, LEAF = pixels(beetle), pixels(leaf)
 
 
 def grey(colours):
@@ -176,9 +176,10 @@ class Counter:
 class Person:
     """Somebody at the desk."""
 
-    def __init__(self, browser, url, work, screenshots):
-        self.browser, self.url, self.work, self.screenshots = browser, url, Path(work), Path(screenshots)
-        self.looks = 0
+    def __init__(self, start, url, work, screenshots):
+        """`start` starts a browser, the same one each time."""
+        self.start, self.url, self.work, self.screenshots = start, url, Path(work), Path(screenshots)
+        self.browser, self.looks = start(), 0
 
     def sit_down(self):
         self.browser.open(self.url)
@@ -192,10 +193,11 @@ class Person:
         wait_for("the page's files are kept", lambda: self.browser.run_async(
             "const done = arguments[0]; navigator.serviceWorker.ready.then(() => caches.open('gulxinett-desk')).then((c) => c.keys()).then((k) => done(k.length > 12))"))
 
-    def look(self, name, whole=True):
+    def look(self, name, at=None):
+        """Keeps how the page looks: the whole of it, or what is seen from a part of it on."""
         self.looks += 1
-        self.browser.run("scrollTo(0, 0)")
-        self.browser.screenshot(self.screenshots / ("%02d-%s.png" % (self.looks, name)), whole)
+        self.browser.run("scrollTo(0, 0); if (arguments[0]) document.querySelector(arguments[0]).scrollIntoView()", at)
+        self.browser.screenshot(self.screenshots / ("%02d-%s.png" % (self.looks, name)), at is None)
 
     def look_at_failure(self):
         try:
@@ -459,9 +461,9 @@ def stop_and_resume(person):
     ensure(not browser.enabled("#place"), "a plate can be put back while a capture is held")
     person.audited("beetle.ppm", "stopped; stopped at")
     person.look("stopped")
-    person.give("#photo", "sheet.png", png(SHEET))
+    person.give("#photo", "leaf.png", png(LEAF))
     person.level(2)
-    ensure(browser.greys("#preview") == taken(SHEET, {**FIRST, "level": 2})[0][15:], "the second specimen's picture afresh is another")
+    ensure(browser.greys("#preview") == taken(LEAF, {**FIRST, "level": 2})[0][15:], "the second specimen's picture afresh is another")
     ensure(browser.greys("#readings") == readings[15:], "the readings are no longer the capture's")
     person.look("another-lent")
     person.speed("1048576")
@@ -500,13 +502,13 @@ def own_speed(person):
     cycles = sorted({elapsed for _, elapsed, _ in seen})
     ensure(took > 1.0, "a second's cycles took %.2f s" % took)
     ensure(len(cycles) > 2, "its cycles are not seen to grow: %s" % cycles)
-    ensure(person.plate() == taken(SHEET, choice)[0], "its plate is another")
+    ensure(person.plate() == taken(LEAF, choice)[0], "its plate is another")
     # slowly it would take a minute
     person.speed("16384")
     person.under_way(1)
     person.speed("Infinity")
     person.done()
-    ensure(person.plate() == taken(SHEET, choice)[0], "at two speeds its plate is another")
+    ensure(person.plate() == taken(LEAF, choice)[0], "at two speeds its plate is another")
     browser.clear("#steps")
     browser.type("#steps", str(FIRST["exposure"]))
     return "%.2f s for 1.03 s of cycles, seen at %d moments" % (took, len(cycles))
@@ -515,7 +517,7 @@ def own_speed(person):
 def close_half_way(person):
     """The tab is closed as a capture runs, and picked up again."""
     browser = person.browser
-    plate, _ = taken(SHEET, FIRST)
+    plate, _ = taken(LEAF, FIRST)
     person.speed("16384")
     for _ in range(TRIES):
         # another tab waits until this one, in which a capture runs, is closed
@@ -534,7 +536,7 @@ def close_half_way(person):
     ensure("Picked up: a capture stands" in person.status(), "half a capture was not picked up: %s" % person.status())
     elapsed = person.elapsed()
     ensure(0 < elapsed < 39_102, "it stands at %d cycles" % elapsed)
-    ensure(browser.greys("#specimen") == grey(SHEET), "the specimen was not picked up")
+    ensure(browser.greys("#specimen") == grey(LEAF), "the specimen was not picked up")
     person.look("picked-up")
     person.speed("Infinity")
     browser.click("#resume")
@@ -542,12 +544,35 @@ def close_half_way(person):
     ensure(person.plate() == plate, "the plate that was picked up is another")
     recording = person.recording()
     ensure(played(recording) == plate, "the program plays the recording of both tabs to another plate")
-    person.audited("sheet.png", "ended.")
+    person.audited("leaf.png", "ended.")
     browser.call("POST", "/refresh", {})
     person.ready()
     ensure(person.plate() == plate and person.status() == "Picked up where you left it.", "the plate was not kept")
     ensure(person.recording() == recording, "the recording was not kept")
-    person.audited("sheet.png", "ended.")
+    person.audited("leaf.png", "ended.")
+    return "picked up at %d cycles" % elapsed
+
+
+def killed_half_way(person):
+    """The browser is killed as a capture runs; another one picks it up."""
+    plate, _ = taken(LEAF, FIRST)
+    person.speed("16384")
+    for _ in range(TRIES):
+        person.under_way(9_000)
+        person.browser.kill()
+        person.browser = person.start()
+        person.sit_down()
+        ensure(person.status().startswith("Picked up") and person.error() == "", "nothing was picked up: %s %s" % (person.status(), person.error()))
+        person.speed("16384")
+        if "a capture stands" in person.status():
+            break
+    elapsed = person.elapsed()
+    ensure(0 < elapsed < 39_102, "it stands at %d cycles" % elapsed)
+    person.speed("Infinity")
+    person.browser.click("#resume")
+    person.done()
+    ensure(person.plate() == plate and played(person.recording()) == plate, "the plate of a browser that was killed is another")
+    person.audited("leaf.png", "ended.")
     return "picked up at %d cycles" % elapsed
 
 
@@ -569,7 +594,7 @@ def damaged_files(person):
         person.give(selector, name, content)
         ensure(person.error().startswith(name) and person.error().endswith("Nothing has changed."), "%s: %s" % (name, person.error()))
     person.look("damaged")
-    ensure(browser.greys("#specimen") == grey(SHEET), "the specimen changed")
+    ensure(browser.greys("#specimen") == grey(LEAF), "the specimen changed")
     ensure(browser.downloaded("#save", "cartridge.gxsave") == save, "the save changed")
     ensure(person.recording() == recording, "the recording changed")
     return "%d files, a sentence for each" % len(bad)
@@ -583,11 +608,11 @@ def put_back(person):
     person.give("#place", "cleaned.pgm", cleaned)
     ensure(person.plate() == cleaned, "the cleaned plate is not in the cartridge")
     ensure(played(person.recording()) == cleaned, "the recording does not have the placing")
-    ensure("CRC-32 %08X: put back" % zlib.crc32(cleaned) in person.audited("sheet.png", "ended.")["This plate"], "a plate that was put back is not told from the capture's")
+    ensure("CRC-32 %08X: put back" % zlib.crc32(cleaned) in person.audited("leaf.png", "ended.")["This plate"], "a plate that was put back is not told from the capture's")
     person.look("put-back")
     person.give("#place", "again.png", png(bytes(value for value in plate[15:] for _ in range(3)), 128, 112))
     ensure(person.plate() == plate, "the PNG of a plate did not go back")
-    ensure("This plate" not in person.audited("sheet.png", "ended."), "the capture's own plate is not known again")
+    ensure("This plate" not in person.audited("leaf.png", "ended."), "the capture's own plate is not known again")
     return "P5 and PNG"
 
 
@@ -651,7 +676,7 @@ def save_and_restore(person):
 def batteries(person):
     """Battery saves of other emulators: a plate is seen, and the rest of the RAM stays."""
     browser = person.browser
-    plate = taken(SHEET, FIRST)[0]
+    plate = taken(LEAF, FIRST)[0]
     with Cartridge(ram=bytes(range(256)) * 512) as cartridge:
         cartridge.place(plate)
         ram = cartridge.battery()
@@ -742,6 +767,9 @@ def everybody(person):
     wanted = ["photo", "light", "level", "exposure", "steps", "dithering", "speed", "take", "plate", "png", "p5", "place", "save", "restore", "new", "back", "recording", "open"]
     ensure(seen == wanted, "the keyboard reaches %s" % seen)
     looks = [("light", "no-preference"), ("dark", "no-preference"), ("light", "more"), ("dark", "more")]
+    browser.protocol("Emulation.setDeviceMetricsOverride", width=360, height=1240, deviceScaleFactor=1, mobile=False)
+    browser.media(prefers_color_scheme="dark")
+    person.look("narrow", "#plate-title")
     # with an answer of every kind on the page, the longest words too
     person.give("#open", "a-recording-with-a-rather-long-name-of-the-kind-that-archives-like.script", (TOP / "examples/preempted.script").read_bytes())
     for width in (360, 768, 1280, 1920):
@@ -808,12 +836,12 @@ def speed(person):
       });
       addEventListener('input', () => { window.began = performance.now(); }, { capture: true });
       // the browser's own measure, from the key to the frame on the screen; it tells of those from 16 ms on, in steps of 8
-      new PerformanceObserver((list) => { window.late += list.getEntries().filter((e) => e.name === 'input' && e.duration > 16).length; })
+      new PerformanceObserver((list) => { window.late += list.getEntries().filter((e) => e.name === 'keydown' && e.duration > 16).length; })
         .observe({ type: 'event', durationThreshold: 16 });
     """)
     browser.press("#exposure", "Home")
-    for _ in range(MOVES // 30):
-        browser.press("#exposure", "ArrowRight", 30)
+    for _ in range(MOVES):
+        browser.press("#exposure", "ArrowRight")
     wait_for("every move is drawn", lambda: browser.run("return window.moves.length") > MOVES)
     moves = browser.run("return window.moves")[1:]
     times = sorted(move["work"] for move in moves)
@@ -821,7 +849,7 @@ def speed(person):
     ensure(all(move["kept"] for move in moves), "a frame has another plate than its move drew")
     late = browser.run("return window.late")
     browser.run("const s = document.getElementById('steps'); s.value = 384; s.dispatchEvent(new Event('input', { bubbles: true }))")
-    return "%d moves of the slider, each drawn before the next frame: %.2f ms in the middle, 9 of 10 within %.2f ms; %d later on the screen than 16 ms" % (len(moves), middle, most, late)
+    return "%d moves of the slider, each drawn before the next frame: %.2f ms in the middle, 9 of 10 within %.2f ms; from the key to the screen %d took more than 16 ms" % (len(moves), middle, most, late)
 
 
 def any_server(person):
@@ -856,7 +884,7 @@ def offline(person, server):
     return "a plate without a server"
 
 
-STEPS = [served, first_load, lend_and_choose, pictures, take_at_once, stop_and_resume, own_speed, close_half_way, damaged_files, put_back, save_and_restore, batteries, dropped, open_recordings, damaged_storage, everybody, by_keyboard, speed, any_server]
+STEPS = [served, first_load, lend_and_choose, pictures, take_at_once, stop_and_resume, own_speed, close_half_way, killed_half_way, damaged_files, put_back, save_and_restore, batteries, dropped, open_recordings, damaged_storage, everybody, by_keyboard, speed, any_server]
 
 
 def main(words):
@@ -866,8 +894,7 @@ def main(words):
         url = server.stdout.readline().strip()
         downloads, profile = Path(work) / "downloads", Path(work) / "profile"
         downloads.mkdir()
-        browser = Browser(driver, chromium, downloads, profile)
-        person = Person(browser, url, work, screenshots)
+        person = Person(lambda: Browser(driver, chromium, downloads, profile), url, work, screenshots)
         try:
             for step in STEPS:
                 print("browser: %s: %s" % (step.__name__.replace("_", " "), step(person)), flush=True)
@@ -876,7 +903,7 @@ def main(words):
             person.look_at_failure()
             raise
         finally:
-            browser.close()
+            person.browser.close()
     except Failure as reason:
         print("browser: FAILED: %s" % reason, file=sys.stderr)
         return 1

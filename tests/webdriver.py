@@ -3,7 +3,9 @@
 import base64
 import http.client
 import json
+import os
 import re
+import signal
 import subprocess
 import time
 from pathlib import Path
@@ -64,7 +66,9 @@ class Browser:
         wanted = {"goog:chromeOptions": {"binary": chromium, "args": words, "prefs": prefs}, "timeouts": {"script": 1000 * PATIENCE, "pageLoad": 1000 * PATIENCE}}
         for left in reversed(range(STARTS)):
             try:
-                return "/session/" + self._call("POST", "/session", {"capabilities": {"alwaysMatch": wanted}})["sessionId"]
+                session = self._call("POST", "/session", {"capabilities": {"alwaysMatch": wanted}})
+                self.pid = session["capabilities"]["goog:processID"]
+                return "/session/" + session["sessionId"]
             except Failure:
                 # the driver waits a minute for the browser, which may not be enough
                 if left == 0:
@@ -93,6 +97,11 @@ class Browser:
         finally:
             self.process.kill()
             self.process.wait()
+
+    def kill(self):
+        """Ends the browser as a crash does."""
+        os.kill(self.pid, signal.SIGKILL)
+        self.close()
 
     # ---- pages
 
