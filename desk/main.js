@@ -181,14 +181,28 @@ async function lend(file) {
   say(`${file.name} is lent.`);
 }
 
-/** Puts another desk in this one's place, which can be gone back to. */
+/** Keeps the desk as it was, which can be gone back to. */
+function putAside(kept) {
+  before = kept;
+  keep(before);
+}
+
+/** Puts another desk in this one's place. */
 function replace(next, words) {
   halt();
-  before = desk.kept();
+  const old = desk.kept();
   desk.close();
   desk = next;
-  keep(before);
+  putAside(old);
   showAll();
+  say(words);
+}
+
+/** Does to the cartridge what can't be undone on it. */
+function overwrite(work, words) {
+  const old = desk.kept();
+  work();
+  putAside(old);
   say(words);
 }
 
@@ -264,6 +278,8 @@ function listen() {
 
   onClick("take", "The capture was not started", () => {
     desk.take();
+    // the browser is asked to keep what is here also where it needs room
+    navigator.storage?.persist?.().catch(() => {});
     go("The capture runs.");
   });
   element("speed").addEventListener("change", () => {
@@ -280,10 +296,8 @@ function listen() {
     desk.resume();
     go("The capture runs on, with its own frame and registers.");
   });
-  onClick("drop-capture", "The capture was not dropped", () => {
-    desk.drop();
-    say("The capture was dropped. The plate stays as it stands.");
-  });
+  onClick("drop-capture", "The capture was not dropped", () =>
+    overwrite(() => desk.drop(), "The capture was dropped. The plate stays as it stands."));
 
   onClick("png", "The plate was not written", async () => {
     const blob = await new Promise((resolve) => element("plate").toBlob(resolve, "image/png"));
@@ -291,14 +305,14 @@ function listen() {
   });
   onClick("p5", "The plate was not written", () => download("plate.pgm", desk.plate(), "image/x-portable-graymap"));
   onFile("place", "was not put back", async (file) => {
-    desk.place(await cleaned(file));
-    say(`${file.name} is in the cartridge.`);
+    const plate = await cleaned(file);
+    overwrite(() => desk.place(plate), `${file.name} is in the cartridge.`);
   });
 
   onClick("save", "The cartridge was not saved", () => download("cartridge.gxsave", desk.save()));
   onFile("restore", "was not restored", async (file) => replace(desk.restored(await bytesOf(file)), `${file.name} is restored.`));
   onClick("new", "There is no new cartridge", () => replace(desk.renewed(), "A new cartridge, full of FF."));
-  onClick("back", "The one before is not back", () => replace(new Desk(module, before), "The cartridge before is back."));
+  onClick("back", "What was before is not back", () => replace(new Desk(module, before), "What was before is back."));
   onClick("recording", "The recording was not written", () => download("recording.script", desk.recording(), "text/plain"));
   onClick("base", "The RAM was not written", () => download("recording.sav", desk.base));
   onFile("open", "was not audited", open);

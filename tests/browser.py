@@ -19,7 +19,7 @@ from urllib.parse import urlsplit
 TOP = Path(__file__).resolve().parent.parent
 sys.path.insert(0, str(TOP / "bindings" / "python"))
 from gulxinett import PICTURE_OFFSET, RAM_BANK, Cartridge  # noqa: E402
-from webdriver import ELEMENT, KEYS, Browser, Failure, ensure, wait_for  # noqa: E402
+from webdriver import ELEMENT, KEYS, PATIENCE, Browser, Failure, ensure, wait_for  # noqa: E402
 
 FIRST = {"light": 0, "level": 7, "dithering": True, "exposure": 0x180}
 FIRST_LOAD = 100_000
@@ -329,7 +329,7 @@ def served(person):
     port = urlsplit(person.url).port
     given = {}
     for path in ("/", "/desk/", "/bindings/js/gulxinett.wasm", "/README.md", "/desk/../README.md", "/desk/serve", "/bindings/js/README.md", "/desk/%00", "/crates/"):
-        connection = http.client.HTTPConnection("127.0.0.1", port, timeout=10)
+        connection = http.client.HTTPConnection("127.0.0.1", port, timeout=PATIENCE)
         connection.request("GET", path)
         answer = connection.getresponse()
         answer.read()
@@ -339,12 +339,12 @@ def served(person):
     ensure(html == (200, "text/html; charset=utf-8") and wasm == (200, "application/wasm") and given.pop("/")[0] == 302, "the page is served as %s, %s" % (html, wasm))
     ensure(all(status == 404 for status, _ in given.values()), "the server gives more than the page: %s" % given)
     for words, status in ((["--help"], 0), (["--port"], 2), (["--port", "x"], 2), (["more"], 2), (["--port", str(port)], 1)):
-        said = subprocess.run([TOP / "desk/serve", *words], stdout=subprocess.PIPE, stderr=subprocess.PIPE, text=True, timeout=20)
+        said = subprocess.run([TOP / "desk/serve", *words], stdout=subprocess.PIPE, stderr=subprocess.PIPE, text=True, timeout=PATIENCE)
         ensure(said.returncode == status and (said.stdout + said.stderr), "desk/serve %s ends with %d" % (" ".join(words), said.returncode))
     other = subprocess.Popen([TOP / "desk/serve"], stdout=subprocess.PIPE, stderr=subprocess.DEVNULL, text=True, preexec_fn=lambda: signal.signal(signal.SIGINT, signal.default_int_handler))
     ensure(other.stdout.readline().startswith("http://127.0.0.1:"), "desk/serve prints no address")
     other.send_signal(signal.SIGINT)
-    ensure(other.wait(timeout=20) == 0, "Ctrl-C ends desk/serve with %d" % other.returncode)
+    ensure(other.wait(timeout=PATIENCE) == 0, "Ctrl-C ends desk/serve with %d" % other.returncode)
     return "the page's files and no other, until Ctrl-C"
 
 
@@ -610,6 +610,11 @@ def put_back(person):
     ensure(played(person.recording()) == cleaned, "the recording does not have the placing")
     ensure("CRC-32 %08X: put back" % zlib.crc32(cleaned) in person.audited("leaf.png", "ended.")["This plate"], "a plate that was put back is not told from the capture's")
     person.look("put-back")
+    browser.click("#back")
+    wait_for("the plate before it is back", lambda: "before is back" in person.status())
+    ensure(person.plate() == plate, "the plate before it is lost")
+    browser.click("#back")
+    wait_for("the cleaned plate is back", lambda: browser.greys("#plate") == cleaned[15:])
     person.give("#place", "again.png", png(bytes(value for value in plate[15:] for _ in range(3)), 128, 112))
     ensure(person.plate() == plate, "the PNG of a plate did not go back")
     ensure("This plate" not in person.audited("leaf.png", "ended."), "the capture's own plate is not known again")
@@ -700,7 +705,15 @@ def dropped(person):
     wait_for("it is dropped", lambda: "dropped" in person.status())
     ensure(browser.enabled("#take") and not browser.enabled("#resume"), "after a reset a capture is held")
     ensure("dropped" in person.answers()["How many cycles"], "the answers don't have it: %s" % person.answers())
-    return "by a reset"
+    # a wrong click: back, and on with it
+    browser.click("#back")
+    wait_for("it is back", lambda: "before is back" in person.status())
+    ensure(browser.enabled("#resume") and person.elapsed() > 0, "what was dropped is not back")
+    person.speed("Infinity")
+    browser.click("#resume")
+    person.done()
+    ensure(person.plate() == taken(BEETLE, FIRST)[0], "what was dropped and is back has another plate")
+    return "by a reset, and back"
 
 
 def open_recordings(person):

@@ -67,7 +67,7 @@ class Browser:
         for left in reversed(range(STARTS)):
             try:
                 session = self._call("POST", "/session", {"capabilities": {"alwaysMatch": wanted}})
-                self.pid = session["capabilities"]["goog:processID"]
+                self.pid = session["capabilities"].get("goog:processID")
                 return "/session/" + session["sessionId"]
             except Failure:
                 # the driver waits a minute for the browser, which may not be enough
@@ -82,7 +82,7 @@ class Browser:
         finally:
             connection.close()
         if isinstance(value, dict) and "error" in value:
-            raise Failure("%s: %s" % (value["error"], value["message"].splitlines()[0]))
+            raise Failure("%s: %s" % (value["error"], "; ".join(value["message"].splitlines()[:2])))
         return value
 
     def call(self, method, path, body=None):
@@ -100,6 +100,7 @@ class Browser:
 
     def kill(self):
         """Ends the browser as a crash does."""
+        ensure(self.pid, "the driver does not tell which process the browser is")
         os.kill(self.pid, signal.SIGKILL)
         self.close()
 
