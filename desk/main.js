@@ -273,7 +273,8 @@ function listen() {
     };
     showPreview();
     showWords();
-    keep();
+    // once the plate is on the screen
+    requestAnimationFrame(() => setTimeout(keep));
   });
 
   onClick("take", "The capture was not started", () => {

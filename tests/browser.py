@@ -24,7 +24,8 @@ from webdriver import ELEMENT, KEYS, PATIENCE, Browser, Failure, ensure, wait_fo
 FIRST = {"light": 0, "level": 7, "dithering": True, "exposure": 0x180}
 FIRST_LOAD = 100_000
 MOVES = 120
-TRIES = 10
+# how often a person tries to be in time, on a machine that may be too busy for that; then the page is held up
+TRIES = 3
 P6 = b"P6\n128 128\n255\n"
 
 
@@ -246,23 +247,29 @@ class Person:
     def elapsed(self):
         return self.browser.run("return document.getElementById('progress').value")
 
-    def under_way(self, cycles):
-        """Takes a plate and waits until it has run so many cycles; whether it is still running then."""
+    def under_way(self, cycles, held_up=False):
+        """Takes a plate slowly and waits until it has run so many cycles; a page that is held up draws no frame from then on."""
+        self.speed("16384")
+        if held_up:
+            self.browser.run("""
+              const [cycles] = arguments, bar = document.getElementById('progress'), frame = window.requestAnimationFrame.bind(window);
+              window.goOn = () => { window.requestAnimationFrame = frame; };
+              window.requestAnimationFrame = (work) => frame((now) => { if (bar.value < cycles) work(now); });
+            """, cycles)
         self.browser.click("#take")
         wait_for("the capture has run %d cycles" % cycles, lambda: self.elapsed() >= cycles or "is done" in self.status())
-        return "is done" not in self.status()
 
     def half(self, cycles, before=lambda: None):
         """Takes a plate slowly and stops it after so many cycles; one that has ended meanwhile is taken again."""
-        self.speed("16384")
-        for _ in range(TRIES):
+        for tried in range(TRIES + 1):
             before()
-            self.under_way(cycles)
+            self.under_way(cycles, tried == TRIES)
             self.browser.click("#stop")
             wait_for("it is stopped", lambda: self.status().startswith("Stopped") or "is done" in self.status())
             if self.status().startswith("Stopped"):
-                return ensure(self.browser.enabled("#resume"), "a stopped capture can't be resumed")
-        raise Failure("no capture could be stopped half way")
+                break
+        self.browser.run("window.goOn?.()")
+        ensure(self.browser.enabled("#resume"), "a capture can't be stopped half way and resumed: %s" % self.status())
 
     def listen(self):
         """Keeps what the page says from here on, as a screen reader hears it."""
@@ -504,7 +511,6 @@ def own_speed(person):
     ensure(len(cycles) > 2, "its cycles are not seen to grow: %s" % cycles)
     ensure(person.plate() == taken(LEAF, choice)[0], "its plate is another")
     # slowly it would take a minute
-    person.speed("16384")
     person.under_way(1)
     person.speed("Infinity")
     person.done()
@@ -518,15 +524,14 @@ def close_half_way(person):
     """The tab is closed as a capture runs, and picked up again."""
     browser = person.browser
     plate, _ = taken(LEAF, FIRST)
-    person.speed("16384")
-    for _ in range(TRIES):
+    for tried in range(TRIES + 1):
         # another tab waits until this one, in which a capture runs, is closed
         first = browser.call("GET", "/window")
         other = browser.new_tab()
         browser.open(person.url)
         wait_for("a second tab says that the desk is open", lambda: "another tab" in person.error())
         browser.tab(first)
-        person.under_way(9_000)
+        person.under_way(9_000, tried == TRIES)
         browser.close_tab()
         browser.tab(other)
         person.ready()
@@ -556,14 +561,12 @@ def close_half_way(person):
 def killed_half_way(person):
     """The browser is killed as a capture runs; another one picks it up."""
     plate, _ = taken(LEAF, FIRST)
-    person.speed("16384")
-    for _ in range(TRIES):
-        person.under_way(9_000)
+    for tried in range(TRIES + 1):
+        person.under_way(9_000, tried == TRIES)
         person.browser.kill()
         person.browser = person.start()
         person.sit_down()
         ensure(person.status().startswith("Picked up") and person.error() == "", "nothing was picked up: %s %s" % (person.status(), person.error()))
-        person.speed("16384")
         if "a capture stands" in person.status():
             break
     elapsed = person.elapsed()
@@ -833,36 +836,47 @@ def by_keyboard(person):
     return "choice, speed and plate"
 
 
-def speed(person):
-    """From a slider's move to its plate: the work, and that the next frame has it. The times are told, not judged: a machine may be busy."""
-    browser = person.browser
+def late_moves(browser):
+    """Of so many moves of a slider, those that took more than 16 ms from the key to the screen, as the browser itself measures it, in steps of 8."""
     browser.run("""
-      window.moves = [];
       window.late = 0;
-      const slider = document.getElementById('exposure'), canvas = document.getElementById('preview');
-      const drawn = () => canvas.getContext('2d').getImageData(0, 0, 128, 112).data.reduce((sum, v, i) => (sum * 31 + v * (i & 255)) | 0, 7);
-      // the page's own listener is inside; at the window the event has been through it
-      addEventListener('input', (event) => {
-        const work = performance.now() - window.began;
-        const after = drawn();
-        requestAnimationFrame(() => window.moves.push({ work, kept: drawn() === after }));
-      });
-      addEventListener('input', () => { window.began = performance.now(); }, { capture: true });
-      // the browser's own measure, from the key to the frame on the screen; it tells of those from 16 ms on, in steps of 8
       new PerformanceObserver((list) => { window.late += list.getEntries().filter((e) => e.name === 'keydown' && e.duration > 16).length; })
         .observe({ type: 'event', durationThreshold: 16 });
     """)
     browser.press("#exposure", "Home")
     for _ in range(MOVES):
         browser.press("#exposure", "ArrowRight")
-    wait_for("every move is drawn", lambda: browser.run("return window.moves.length") > MOVES)
-    moves = browser.run("return window.moves")[1:]
-    times = sorted(move["work"] for move in moves)
-    middle, most = times[len(times) // 2], times[len(times) * 9 // 10]
+    return browser.run_async("const done = arguments[0]; requestAnimationFrame(() => setTimeout(() => done(window.late), 100))")
+
+
+def speed(person):
+    """From a slider's move to its plate: the work, and that the next frame has it. The times are told, not judged: a machine may be busy."""
+    browser = person.browser
+    late = late_moves(browser)
+    browser.run("""
+      window.moves = [];
+      const canvas = document.getElementById('preview');
+      const drawn = () => canvas.getContext('2d').getImageData(0, 0, 128, 112).data.reduce((sum, v, i) => (sum * 31 + v * (i & 255)) | 0, 7);
+      // the page's own listener is inside; at the window the event has been through it
+      addEventListener('input', () => { window.began = performance.now(); }, { capture: true });
+      addEventListener('input', () => {
+        const work = performance.now() - window.began;
+        const after = drawn();
+        requestAnimationFrame(() => window.moves.push({ work, kept: drawn() === after }));
+      });
+    """)
+    for _ in range(MOVES):
+        browser.press("#exposure", "ArrowLeft")
+    wait_for("every move is drawn", lambda: browser.run("return window.moves.length") == MOVES)
+    moves = browser.run("return window.moves")
     ensure(all(move["kept"] for move in moves), "a frame has another plate than its move drew")
-    late = browser.run("return window.late")
+    times = sorted(move["work"] for move in moves)
     browser.run("const s = document.getElementById('steps'); s.value = 384; s.dispatchEvent(new Event('input', { bubbles: true }))")
-    return "%d moves of the slider, each drawn before the next frame: %.2f ms in the middle, 9 of 10 within %.2f ms; from the key to the screen %d took more than 16 ms" % (len(moves), middle, most, late)
+    browser.open("data:text/html,<input id=exposure type=range min=0 max=257 value=0>")
+    alone = late_moves(browser)
+    person.sit_down()
+    told = (MOVES, times[MOVES // 2], times[MOVES * 9 // 10], late, alone)
+    return "%d moves of the slider, each drawn before the next frame: %.2f ms in the middle, 9 of 10 within %.2f ms; from the key to the screen %d took more than 16 ms, of a slider alone on a page %d" % told
 
 
 def any_server(person):
