@@ -426,6 +426,8 @@ def pictures(person):
         person.give("#photo", "picture." + kind, content)
         ensure(person.error() == "", "a picture of kind %s is not opened: %s" % (kind, person.error()))
         ensure(all(abs(value - ink) <= 2 for value in browser.greys("#specimen")), "a %s has another grey" % kind)
+    person.give("#photo", "clear.svg", b'<svg xmlns="http://www.w3.org/2000/svg" width="300" height="200"/>')
+    ensure(set(browser.greys("#specimen")) == {255}, "what is transparent does not stand on white")
     browser.run("dispatchEvent(new DragEvent('drop', { dataTransfer: new DataTransfer(), cancelable: true }))")
     wait_for("there is a sentence for a drop of no file", lambda: "it is no file" in person.error())
     person.drop("beetle.ppm", P6 + BEETLE)
