@@ -63,6 +63,7 @@ function showCapture() {
   const { held, elapsed, total } = desk.capture();
   drawPlate(element("plate"), desk.plate());
   drawPlate(element("readings"), desk.readings);
+  element("readings-words").textContent = desk.readings ? "Its readings, before the dots" : "No readings: no capture made this plate here";
   showPoint();
   element("progress").max = held ? total : 1;
   element("progress").value = held ? elapsed : 0;

@@ -614,6 +614,7 @@ def put_back(person):
     ensure(person.plate() == cleaned, "the cleaned plate is not in the cartridge")
     ensure(played(person.recording()) == cleaned, "the recording does not have the placing")
     ensure("CRC-32 %08X: put back" % zlib.crc32(cleaned) in person.audited("leaf.png", "ended.")["This plate"], "a plate that was put back is not told from the capture's")
+    ensure(browser.text("#readings-words").startswith("No readings") and set(browser.greys("#readings")) == {0}, "a plate that was put back has readings")
     person.look("put-back")
     browser.click("#back")
     wait_for("the plate before it is back", lambda: "before is back" in person.status())
