@@ -123,11 +123,18 @@ function showAll() {
 
 // ---- what is done
 
+function notKept({ message }) {
+  complain(`The browser did not keep the last step (${message}): save the cartridge as a file before you close this tab.`);
+}
+
 /** Keeps the desk in the browser. */
 function keep(replaced = null) {
-  storage?.keep(() => desk.kept(), replaced).catch((reason) => {
-    complain(`The browser did not keep the last step (${reason.message}): save the cartridge as a file before you close this tab.`);
-  });
+  storage?.keep(() => desk.kept(), replaced).catch(notKept);
+}
+
+/** Keeps what was chosen; no step was made. */
+function keepChoice() {
+  storage?.keepChoice(desk.choice).catch(notKept);
 }
 
 /** Does something; where it can't be done, says so in a sentence. */
@@ -274,8 +281,7 @@ function listen() {
     };
     showPreview();
     showWords();
-    // once the plate is on the screen
-    requestAnimationFrame(() => setTimeout(keep));
+    keepChoice();
   });
 
   onClick("take", "The capture was not started", () => {
@@ -335,7 +341,7 @@ async function pickedUp() {
   } catch (reason) {
     storage = null;
     complain(`This browser keeps nothing (${reason.message}): save the cartridge as a file before you close this tab.`);
-    return { now: null, before: null };
+    return { now: null, choice: null, before: null };
   }
 }
 
@@ -357,6 +363,7 @@ async function main() {
   complain("");
   const kept = await pickedUp();
   desk = deskFrom(kept);
+  desk.choice = kept.choice ?? desk.choice;
   if (before && before !== kept.before) keep(before);
   listen();
   showAll();

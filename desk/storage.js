@@ -1,7 +1,7 @@
 // What the browser keeps: the desk after every step, in IndexedDB.
 
 const NAME = "gulxinett-desk";
-/** `desk` has the desk but for its recording, and the one before it; `recording` its pieces, by where they begin. */
+/** `desk` has the desk but for its recording, the choice, and the desk before it; `recording` its pieces, by where they begin. */
 const STORES = ["desk", "recording"];
 
 const answered = (request) =>
@@ -10,10 +10,12 @@ const answered = (request) =>
     request.onerror = () => reject(request.error);
   });
 
+/** Ends a transaction, which then holds also where the tab is closed before it is done. */
 const completed = (transaction) =>
   new Promise((resolve, reject) => {
     transaction.oncomplete = () => resolve();
     transaction.onabort = transaction.onerror = () => reject(transaction.error);
+    transaction.commit?.();
   });
 
 /** Waits until no other tab has the desk open; then none has, for as long as this one is. Where that takes a while, `told` is called. */
@@ -45,18 +47,26 @@ export class Storage {
     return storage;
   }
 
-  /** The desk that was kept, and the one before it; null for what there is none of. */
+  /** The desk that was kept, the choice, and the desk before it; null for what there is none of. */
   async read() {
     const transaction = this.#database.transaction(STORES);
-    const [desk, before, pieces] = await Promise.all([
+    const [desk, choice, before, pieces] = await Promise.all([
       answered(transaction.objectStore("desk").get("now")),
+      answered(transaction.objectStore("desk").get("choice")),
       answered(transaction.objectStore("desk").get("before")),
       answered(transaction.objectStore("recording").getAll()),
     ]);
     const recording = new Uint8Array(await new Blob(pieces).arrayBuffer());
     this.#begun = desk?.begun;
     this.#length = recording.length;
-    return { now: desk ? { ...desk, recording } : null, before: before ?? null };
+    return { now: desk ? { ...desk, recording } : null, choice: choice ?? null, before: before ?? null };
+  }
+
+  /** Keeps a choice, where nothing else has changed. */
+  keepChoice(choice) {
+    const transaction = this.#database.transaction("desk", "readwrite");
+    transaction.objectStore("desk").put(choice, "choice");
+    return completed(transaction);
   }
 
   /** Keeps what `desk()` has at the moment of writing, and a desk that it took the place of. Calls meanwhile are one more write. */
@@ -75,6 +85,7 @@ export class Storage {
       const transaction = this.#database.transaction(STORES, "readwrite");
       const [desks, pieces] = STORES.map((store) => transaction.objectStore(store));
       desks.put(now, "now");
+      desks.put(now.choice, "choice");
       if (before) desks.put(before, "before");
       if (from === 0) pieces.clear();
       if (recording.length > from) pieces.put(recording.slice(from), from);

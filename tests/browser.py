@@ -394,6 +394,9 @@ def lend_and_choose(person):
     browser.type("#steps", str(0x234))
     ensure(browser.greys("#preview") == taken(BEETLE, choice)[0][15:], "the picture afresh is not the library's once all is chosen")
     ensure("0234h" in browser.text("#exposure-words"), "the exposure's words are %s" % browser.text("#exposure-words"))
+    browser.call("POST", "/refresh", {})
+    person.ready()
+    ensure(browser.greys("#preview") == taken(BEETLE, choice)[0][15:], "loaded again, the choice is another")
     person.look("chosen")
     for word, sentence in (("70000", "65,535"), ("", "65,535")):
         browser.run("const s = document.getElementById('steps'); s.value = arguments[0]; s.dispatchEvent(new Event('input', { bubbles: true }))", word)
