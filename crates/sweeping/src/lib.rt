@@ -1,7 +1,7 @@
 // Whole lines of a recording, one after the other, as long as there is room for their events: what a program plays a piece by.
 use auditing::line::line_audited;
 use layout::is_record;
-use script::text::line_end;
+use short::line_end;
 ghost use mathlib.Core.Path.{_≡_};
 ghost use mathlib.Core.Bool.{true, _&&_};
 ghost use lib.Dec.{leb, ltb};
