@@ -222,6 +222,15 @@ fn changes(book: &mut [u64], first: &[u8], ram: &[u8], out: &mut [u8]) {
     }
 }
 
+// After the end: its events, what outside the picture area changed, and the summary.
+fn tell_rest(book: &mut [u64], state: &[u8], first: &[u8], ram: &[u8], out: &mut [u8]) {
+    if tell(book, out) {
+        changes(book, first, ram, out);
+        gulxinett_audit_summary(book, state, out);
+        tell(book, out);
+    }
+}
+
 fn main() {
     let rom = [0xFFu8; 16384];
     let first = [0xFFu8; 8192];
@@ -257,9 +266,5 @@ fn main() {
         &mut image,
         &mut out,
     );
-    if tell(&book, &out) {
-        changes(&mut book, &first, &ram, &mut out);
-        gulxinett_audit_summary(&mut book, &state, &mut out);
-        tell(&book, &out);
-    }
+    tell_rest(&mut book, &state, &first, &ram, &mut out);
 }
