@@ -1,3 +1,3 @@
 // The bus script: a text in pieces to its answers.
-mod short;
+pub mod short;
 pub mod text;

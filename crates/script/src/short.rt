@@ -22,7 +22,7 @@ pub(crate) struct Place {
 }
 
 // Whether a line says no frame.
-fn is_malformed(frame: Frame) -> bool
+pub fn is_malformed(frame: Frame) -> bool
     ensures { λ r. ⌜ r ≡ isMalformed frame ⌝ }
 {
     match frame {
