@@ -12,7 +12,7 @@ use Rattle.laws.specs.Pick.{pick}
 use Rattle.lines.specs.Hex.{placed}
 use Rattle.lines.proofs.Placed.{placed-none, placed-next}
 use Rattle.session.specs.Session.{World}
-use Rattle.script.specs.Pieces.{Ends}
+use Rattle.short.specs.Aside.{Ends}
 use Rattle.wording.specs.Events.{heldText}
 use Rattle.wording.specs.Aside.{Put}
 use Rattle.controller.specs.declared.Controller.{Controller}

@@ -5,7 +5,7 @@ use events::book::LINES;
 use events::book::WRITTEN;
 use events::sight::look;
 use script::text::hold;
-use script::text::line_end;
+use short::line_end;
 use wording::events::put_held;
 ghost use mathlib.Core.Path.{_≡_};
 ghost use mathlib.Core.Bool.{true};

@@ -16,7 +16,8 @@ use Rattle.lines.specs.Line.{hexPart}
 use Rattle.recording.specs.Record.{ended}
 use Rattle.lines.proofs.Frames.{bad}
 use Rattle.script.specs.Text.{begins, linesOf}
-use Rattle.script.proofs.Replayed.{endless, line-ends}
+use Rattle.short.proofs.Standing.{endless}
+use Rattle.script.proofs.Replayed.{line-ends}
 use Rattle.salvaging.specs.Kept.{isFrame, accepted, acceptedOf, doubled, halved, unrepeated, salvaged, textOf, markOf, leftAfter, marks, reportOf}
 use Rattle.salvaging.specs.Salvage.{cleaned}
 use Rattle.salvaging.proofs.Walks.{lines-next}

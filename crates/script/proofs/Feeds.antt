@@ -18,7 +18,8 @@ use Rattle.lines.specs.Hex.{placed}
 use Rattle.session.specs.Session.{World, Step, step, stepOf}
 use Rattle.session.specs.Aside.{Printed}
 use Rattle.session.proofs.Steps.{drop-zeros}
-use Rattle.script.specs.Pieces.{Ends, Going, Reading, Feeding, reading, feeding, lineEnded, lineKept, byteKept, byteRead, fed, readerOf, heldBy, opened, feedMeans, lastLine, finishMeans}
+use Rattle.short.specs.Aside.{Ends}
+use Rattle.script.specs.Pieces.{Going, Reading, Feeding, reading, feeding, lineEnded, lineKept, byteKept, byteRead, fed, readerOf, heldBy, opened, feedMeans, lastLine, finishMeans}
 use Rattle.lines.proofs.Placed.{placed-none, placed-next, take-placed}
 
 pub reading-alike : (w w′ : World) (line : List ℕ) (t t′ : List ℕ) (used : ℕ) → w ≡ w′ → t ≡ t′ → reading w line t used ≡ reading w′ line t′ used
@@ -185,12 +186,6 @@ pub goes-on : (end n room : ℕ) (r : Bool) → r ≡ (ltb end n && leb 11 room)
 goes-on end n room r e t =
     let h = sym e ∙ t in
     (ltb-true end n (both-left (ltb end n) (leb 11 room) h), leb-true 11 room (both-right (ltb end n) (leb 11 room) h))
-
--- one place further on
-pub passed-one : (piece : List ℕ) (from i : ℕ) → ((k : ℕ) → from ≤ k → k < i → getD piece k 0 ≡ 0x0A → ⊥) → (getD piece i 0 ≡ 0x0A → ⊥)
-    → (k : ℕ) → from ≤ k → k < i + 1 → getD piece k 0 ≡ 0x0A → ⊥
-passed-one piece from i before here k a b e =
-    split k i (λ l. before k a l e) (λ l. let same : k ≡ i = omega arith in here (sym (ap (λ j. getD piece j 0) same) ∙ e))
 
 -- ---- the bytes that are held
 

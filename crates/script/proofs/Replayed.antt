@@ -1,14 +1,11 @@
 -- A recording of any calls, played by a session, makes the same calls. Assumes nothing.
 use mathlib.Core.Path.{_≡_, refl, sym, ap, _∙_}
-use mathlib.Core.Bool.{true, false}
+use mathlib.Core.Bool.{true}
 use mathlib.Core.List.{List, [], _∷_, _++_, append-assoc}
-use Prim.Native.Nat.{ℕ, zero, suc, _+_, _*_, _<_, _≤_}
-use native.Mathlib.Nat.{add-zero}
+use Prim.Native.Nat.{ℕ, zero, suc, _+_, _*_, _≤_}
 use native.Mathlib.Omega.{arith}
-use lib.Dec.{eqb}
 use lib.ListN.{length, getD, take, set}
 use lib.Seq.{take-suc, take-all, length-take-le}
-use borrow.Author.Tests.{eqb-true}
 use Rattle.laws.proofs.Bools.{either}
 use Rattle.laws.proofs.Pick.{pick-same}
 use Rattle.tiles.specs.Tiles.{Bytes}
@@ -17,31 +14,19 @@ use Rattle.timing.proofs.Lent.{frame-lent}
 use Rattle.lines.specs.declared.line.Frame.{Frame}
 use Rattle.lines.specs.declared.line.Frame.the-variants.{Reset, Read, Write, Tick, Row, Malformed}
 use Rattle.lines.specs.Hex.{placed}
-use Rattle.lines.specs.Line.{isHex, hexPart}
+use Rattle.lines.specs.Line.{hexPart}
 use Rattle.recording.specs.Record.{lineOf, ended}
-use Rattle.lines.proofs.Digits.{second-half, clash, hex-within}
 use Rattle.lines.proofs.Frames.{bad}
 use Rattle.lines.proofs.Placed.{placed-none, placed-one, placed-next, length-placed}
 use Rattle.recording.proofs.Recorded.{Sayable, reset, read, write, tick, row, written-read, written-byte}
 use Rattle.session.specs.Session.{World, world, step, rowTaken, rowImage, rowText, frameStep, stepOf}
+use Rattle.short.proofs.Standing.{Endless, endless}
 use Rattle.script.specs.Text.{begins, linesOf, after, played, sessionOf}
 use Rattle.script.specs.Recording.{Call, callLines, recordingOf, rowLent, callStep, callsMade}
 
 -- ---- the lines of a recording
 
--- a digit is no LF
-no-end : (b : ℕ) → isHex b ≡ true → eqb b 0x0A ≡ false
-no-end b h = either (eqb b 0x0A) (λ t. absurd (clash (sym (ap isHex (eqb-true b 0x0A t)) ∙ h))) (λ f. f)
-
-abbrev pub Endless : List ℕ → Type 0
-Endless line = (i : ℕ) → i < length line → eqb (getD line i 0) 0x0A ≡ false
-
-pub endless : (line : List ℕ) → hexPart line 0 (length line) ≡ true → Endless line
-unfolding hexPart
-endless line h i l =
-    let d = second-half true _ (hex-within line (length line) i 1 h (omega arith)) in
-    no-end (getD line i 0) (ap (λ k. isHex (getD line k 0)) (sym (add-zero i)) ∙ d)
-
+-- a line without LF in it ends at the first
 pub line-ends : (line rest : List ℕ) → Endless line → linesOf (ended line ++ rest) ≡ line ∷ linesOf rest
 unfolding linesOf
 line-ends [] rest h = refl

@@ -3,9 +3,9 @@
 use mathlib.Core.Path.{_≡_}
 use mathlib.Core.Bool.{Bool, _&&_}
 use mathlib.Core.List.{List, [], _∷_, _++_}
-use Prim.Native.Nat.{ℕ, _+_, _-_, _<_, _≤_, min}
+use Prim.Native.Nat.{ℕ, _+_, _-_, _≤_, min}
 use lib.Dec.{eqb, ltb}
-use lib.ListN.{length, getD, take, drop, replicate}
+use lib.ListN.{length, take, drop, replicate}
 use Rattle.laws.specs.Pick.{pick}
 use Rattle.script.specs.declared.text.Reader.{Reader}
 use Rattle.script.specs.declared.text.Fed.{Fed}
@@ -114,13 +114,6 @@ abbrev pub joined : List (List ℕ) → List ℕ
 joined [] = []
 joined (piece ∷ pieces) = piece ++ joined pieces
 
--- the line that begins at a place of a piece ends at an LF, the first from there on, or at the piece's end
-pub record Ends (piece : List ℕ) (from end : ℕ) : Type 0 where
-  pub after : from ≤ end
-  pub inside : end ≤ length piece
-  pub none : (k : ℕ) → from ≤ k → k < end → getD piece k 0 ≡ 0x0A → ⊥
-  pub found : end < length piece → getD piece end 0 ≡ 0x0A
-
 -- after i bytes of a piece: what is left from here is the whole from the start, and what is written is what was printed
 pub record Going (rom : List ℕ) (start : Reading) (out₀ piece : List ℕ) (w : World) (line out : List ℕ) (at i : ℕ) : Type 0 where
   pub inside : i ≤ length piece
@@ -129,10 +122,3 @@ pub record Going (rom : List ℕ) (start : Reading) (out₀ piece : List ℕ) (w
   pub same : length out ≡ length out₀
   pub text : out ≡ placed out₀ 0 (take at out)
   pub rest : fed rom (length out₀) (reading w line (take at out) i) (drop i piece) ≡ fed rom (length out₀) start piece
-
--- lines are carried out and answered from one place of a piece to another: whatever was going on at the first, with no line begun, goes on at the second
-pub record Moves (rom piece : List ℕ) (w : World) (out : List ℕ) (at i : ℕ) (w′ : World) (out′ : List ℕ) (at′ i′ : ℕ) : Type 0 where
-  pub onward : i ≤ i′
-  pub inside : i′ ≤ length piece
-  pub room : at′ ≤ length out
-  pub going : (start : Reading) (out₀ : List ℕ) → Going rom start out₀ piece w [] out at i → Going rom start out₀ piece w′ [] out′ at′ i′

@@ -1,3 +1,2 @@
 // The bus script: a text in pieces to its answers.
-pub mod short;
 pub mod text;

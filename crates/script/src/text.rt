@@ -1,5 +1,4 @@
 // A text to its answers, read in pieces that may be cut anywhere.
-use super::short::short_lines;
 use controller::Controller;
 use layout::decode;
 use session::answer::ANSWER;
@@ -7,6 +6,8 @@ use session::session::Stepped;
 use session::session::bytes_of;
 use session::session::line_done;
 use session::session::step;
+use short::line_end;
+use short::short_lines;
 ghost use mathlib.Core.Path.{_≡_};
 ghost use mathlib.Core.Bool.{true, _&&_};
 ghost use mathlib.Core.List.{_++_};
@@ -17,7 +18,7 @@ ghost use Rattle.layout.specs.Layout.{isRecord, decoded};
 ghost use Rattle.lines.specs.Hex.{placed};
 ghost use Rattle.session.specs.Session.{world, stepOf};
 ghost use Rattle.session.specs.Aside.{Printed, said, saying};
-ghost use Rattle.script.specs.Pieces.{Ends, readerOf, newReader, fedAs, feedMeans, finishMeans};
+ghost use Rattle.script.specs.Pieces.{readerOf, newReader, fedAs, feedMeans, finishMeans};
 
 // The bytes held of a line: one more than the longest line has.
 pub const HELD: usize = 261;
@@ -81,31 +82,6 @@ fn holding(line: [u8; 261], held: usize) -> Reader
     let mut kept = [0u8; 261];
     hold(&mut kept, 0, &line[..held]);
     Reader { line: kept, held }
-}
-
-// Where the line that begins at a place of a piece ends: at its LF, or at the piece's end. Eight bytes are looked at in a row, as long as there are so many.
-pub fn line_end(piece: &[u8], from: usize) -> usize
-    requires { ⌜ from ≤ length (now piece) ⌝ }
-    ensures { λ r. ⌜ Ends (now (piece .entry)) from r ⌝ }
-{
-    let mut i = from;
-    while 8 <= piece.len() - i {
-        let mut k = 0;
-        while k < 8 {
-            if piece[i + k] == 0x0A {
-                return i + k;
-            }
-            k += 1;
-        }
-        i += 8;
-    }
-    while i < piece.len() {
-        if piece[i] == 0x0A {
-            return i;
-        }
-        i += 1;
-    }
-    i
 }
 
 // Carries out a line of which the first bytes are held and the others stand in the piece, and puts its answer into a

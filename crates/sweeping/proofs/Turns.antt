@@ -14,8 +14,8 @@ use Rattle.laws.proofs.Bools.{both-left, both-right}
 use Rattle.lines.specs.Hex.{placed}
 use Rattle.lines.proofs.Placed.{placed-none, placed-next}
 use Rattle.session.specs.Session.{World}
+use Rattle.short.specs.Aside.{Ends}
 use Rattle.script.specs.Text.{linesOf}
-use Rattle.script.specs.Pieces.{Ends}
 use Rattle.auditing.specs.Line.{Audited, auditOf, auditAll}
 use Rattle.auditing.specs.Aside.{Audits}
 use Rattle.audited.proofs.Sessions.{world-append, book-append}

@@ -1,10 +1,10 @@
 // Whole lines of a recording, one after the other, as long as there is room for their events: what a program plays a piece by.
-mod short;
+mod runs;
 
 use auditing::line::line_audited;
 use layout::is_record;
-use script::text::line_end;
-use short::short_lines;
+use runs::short_lines;
+use short::line_end;
 ghost use mathlib.Core.Path.{_≡_};
 ghost use mathlib.Core.Bool.{true, _&&_};
 ghost use lib.Dec.{leb, ltb};

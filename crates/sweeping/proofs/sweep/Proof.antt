@@ -7,7 +7,7 @@ use lib.ListN.{length}
 use borrow.Author.Needs.{needs}
 use Rattle.layout.specs.Layout.{isRecord, decoded}
 use Rattle.session.specs.Session.{world}
-use Rattle.script.specs.Pieces.{Ends}
+use Rattle.short.specs.Aside.{Ends}
 use Rattle.sweeping.specs.Aside.{Sweeps}
 use Rattle.sweeping.proofs.Turns.{went-on, sweeps-none, sweeps-line}
 use Rattle.sweeping.proofs.sweep.Statement.{statement}

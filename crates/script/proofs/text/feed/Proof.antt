@@ -9,8 +9,10 @@ use borrow.Author.Needs.{needs}
 use Rattle.layout.specs.Layout.{isRecord, decoded}
 use Rattle.layout.proofs.Inverse.{record-parts}
 use Rattle.session.specs.Session.{world}
-use Rattle.script.specs.Pieces.{Ends, Going, reading, readerOf, feedMeans}
+use Rattle.short.specs.Aside.{Ends}
+use Rattle.script.specs.Pieces.{Going, reading, readerOf, feedMeans}
 use Rattle.script.proofs.Feeds.{leaving, going-start, going-on, going-line, going-done, goes-on, few-held, held-on, begun}
+use Rattle.script.proofs.Moves.{moved}
 use Rattle.script.proofs.text.feed.Statement.{statement}
 use Rattle.script.proofs.text.feed.Tie as tie
 
@@ -101,7 +103,7 @@ loop-again c =
       d .kept .1 .1 .1 .1 .1 .0 ∙ l .inv .3,
       omega arith,
       c .line-end2 .ensures,
-      p .ensures .0 .going _ _ first,
+      moved _ _ _ _ (p .ensures .0 .lines) first,
       p .ensures .1,
     )
 

@@ -1,13 +1,13 @@
--- `sweeping::short::line_of` meets its contract: a line that says a frame ends at the LF after it. Assumes nothing.
+-- `sweeping::runs::line_of` meets its contract: a line that says a frame ends at the LF after it. Assumes nothing.
 use mathlib.Core.Path.{sym, ap, _∙_}
 use Prim.Native.Nat.{_+_}
 use native.Mathlib.Omega.{arith}
 use borrow.Author.Needs.{needs}
 use Rattle.lines.specs.Kinds.{isMalformed}
-use Rattle.script.proofs.Moves.{ends-there}
+use Rattle.short.proofs.Standing.{ends-there}
 use Rattle.sweeping.proofs.Turns.{strides-none, strides-line}
-use Rattle.sweeping.proofs.short.line_of.Statement.{statement}
-use Rattle.sweeping.proofs.short.line_of.Tie as tie
+use Rattle.sweeping.proofs.runs.line_of.Statement.{statement}
+use Rattle.sweeping.proofs.runs.line_of.Tie as tie
 
 add-end : tie.Need-add-end
 add-end c = search needs
@@ -52,22 +52,22 @@ add-t20 : tie.Need-add-t20
 add-t20 c = omega (arith, c .before .before .before .before .before .before .before .before .before .before .before .before .before .before .before .before .before .before .before .before .before .before .before .before .before .before .before .before .before .before .before .before .before .before, c .before .before .before .before .before .before .before .before .before .before .before .before .before .before .before .before .before .before .before .before .before .before .before .before .before .before .before .before .before .before .before .before .before .before .pre .2)
 
 same-length : tie.Need-same-length
-same-length c = search needs
+same-length c = c .before .before .before .before .before .before .before .before .before .before .before .before .line-audited .kept .0
 
 same-length-2 : tie.Need-same-length-2
-same-length-2 c = search needs
+same-length-2 c = c .before .before .before .before .before .before .before .before .before .before .before .before .line-audited .kept .1 .0
 
 same-length-3 : tie.Need-same-length-3
-same-length-3 c = search needs
+same-length-3 c = c .before .before .before .before .before .before .before .before .before .before .before .before .line-audited .kept .1 .1 .1 .0
 
 same-length-4 : tie.Need-same-length-4
-same-length-4 c = search needs
+same-length-4 c = c .before .before .before .before .before .before .before .before .before .before .before .before .line-audited .kept .1 .1 .1 .1 .0
 
 same-length-5 : tie.Need-same-length-5
-same-length-5 c = search needs
+same-length-5 c = c .before .before .before .before .before .before .before .before .before .before .before .before .line-audited .kept .1 .1 .1 .1 .1 .0
 
 same-length-6 : tie.Need-same-length-6
-same-length-6 c = search needs
+same-length-6 c = c .before .before .before .before .before .before .before .before .before .before .before .before .line-audited .kept .1 .1 .1 .1 .1 .1 .1 .0
 
 returns-3 : tie.Need-returns-3
 returns-3 c =

@@ -1,4 +1,4 @@
-// Reads, writes and ticks one after the other, read where they stand: such a line's kind says where its LF is to be, so none is looked for.
+// Lines of a piece, read where they stand: where one ends; reads, writes and ticks one after the other, whose kind says where their LF is to be.
 use lines::line::Frame;
 use lines::line::frame_of;
 use session::answer::ANSWER;
@@ -10,15 +10,40 @@ ghost use lib.ListN.{length};
 ghost use Rattle.layout.specs.Layout.{isRecord, decoded};
 ghost use Rattle.lines.specs.Kinds.{isMalformed};
 ghost use Rattle.session.specs.Session.{world};
-ghost use Rattle.script.specs.Pieces.{Moves};
+ghost use Rattle.short.specs.Aside.{Ends, Moves};
 
 // The bytes of the longest of these lines, with its LF.
 const LONGEST: usize = 11;
 
 // Where the next line begins in a piece, and where its answer goes in a buffer.
-pub(crate) struct Place {
-    pub(crate) from: usize,
-    pub(crate) at: usize,
+pub struct Place {
+    pub from: usize,
+    pub at: usize,
+}
+
+// Where the line that begins at a place of a piece ends: at its LF, or at the piece's end. Eight bytes are looked at in a row, as long as there are so many.
+pub fn line_end(piece: &[u8], from: usize) -> usize
+    requires { ⌜ from ≤ length (now piece) ⌝ }
+    ensures { λ r. ⌜ Ends (now (piece .entry)) from r ⌝ }
+{
+    let mut i = from;
+    while 8 <= piece.len() - i {
+        let mut k = 0;
+        while k < 8 {
+            if piece[i + k] == 0x0A {
+                return i + k;
+            }
+            k += 1;
+        }
+        i += 8;
+    }
+    while i < piece.len() {
+        if piece[i] == 0x0A {
+            return i;
+        }
+        i += 1;
+    }
+    i
 }
 
 // Whether a line says no frame.
@@ -96,7 +121,7 @@ fn short_line(
 }
 
 // Carries out and answers such lines one after the other, up to one that is none or for which the piece or the buffer may have no room.
-pub(crate) fn short_lines(
+pub fn short_lines(
     state: &mut [u8],
     rom: &[u8],
     ram: &mut [u8],

@@ -1,11 +1,11 @@
--- `script::text::line_end` meets its contract: the invariant is that no byte passed is LF. Assumes nothing.
+-- `short::line_end` meets its contract: the invariant is that no byte passed is LF. Assumes nothing.
 use mathlib.Core.Path.{_≡_}
 use Prim.Native.Nat.{ℕ, _+_, _-_, _<_, _≤_}
 use native.Mathlib.Omega.{arith}
 use lib.ListN.{length, getD}
-use Rattle.script.proofs.Feeds.{passed-one}
-use Rattle.script.proofs.text.line_end.Statement.{statement}
-use Rattle.script.proofs.text.line_end.Tie as tie
+use Rattle.short.proofs.Standing.{passed-one}
+use Rattle.short.proofs.line_end.Statement.{statement}
+use Rattle.short.proofs.line_end.Tie as tie
 
 abbrev Inv-loop2 : tie.InvT-loop2
 Inv-loop2 piece from i k₀ k = (k ≤ 8) × (i + 8 ≤ length piece) × ((j : ℕ) → from ≤ j → j < i + k → getD piece j 0 ≡ 0x0A → ⊥)

@@ -1,4 +1,4 @@
--- `sweeping::short::short_lines` meets its contract: the invariant is that the lines so far were played. Assumes nothing.
+-- `sweeping::runs::short_lines` meets its contract: the invariant is that the lines so far were played. Assumes nothing.
 use mathlib.Core.Path.{_≡_, refl, _∙_}
 use mathlib.Core.Bool.{true}
 use Prim.Native.Nat.{_-_}
@@ -8,8 +8,8 @@ use Rattle.layout.specs.Layout.{isRecord, decoded}
 use Rattle.session.specs.Session.{world}
 use Rattle.sweeping.specs.Aside.{Strides}
 use Rattle.sweeping.proofs.Turns.{strides-none, strides-on}
-use Rattle.sweeping.proofs.short.short_lines.Statement.{statement}
-use Rattle.sweeping.proofs.short.short_lines.Tie as tie
+use Rattle.sweeping.proofs.runs.short_lines.Statement.{statement}
+use Rattle.sweeping.proofs.runs.short_lines.Tie as tie
 
 abbrev Inv-loop : tie.InvT-loop
 Inv-loop book₀ state₀ rom ram₀ store₀ image₀ piece from out₀ at i₀ to₀ book state ram store image out i to =

@@ -1,12 +1,12 @@
--- `script::short::line_of` meets its contract: a line that says a frame ends at the LF after it. Assumes nothing.
+-- `short::line_of` meets its contract: a line that says a frame ends at the LF after it. Assumes nothing.
 use mathlib.Core.Path.{sym, ap, _∙_}
 use Prim.Native.Nat.{_+_}
 use native.Mathlib.Omega.{arith}
 use borrow.Author.Needs.{needs}
 use Rattle.lines.specs.Kinds.{isMalformed}
-use Rattle.script.proofs.Moves.{ends-there, moves-none, moves-line}
-use Rattle.script.proofs.short.line_of.Statement.{statement}
-use Rattle.script.proofs.short.line_of.Tie as tie
+use Rattle.short.proofs.Standing.{ends-there, moves-none, moves-line}
+use Rattle.short.proofs.line_of.Statement.{statement}
+use Rattle.short.proofs.line_of.Tie as tie
 
 add-end : tie.Need-add-end
 add-end c = search needs
@@ -51,19 +51,19 @@ add-t19 : tie.Need-add-t19
 add-t19 c = omega (arith, c .before .before .before .before .before .before .before .before .before .before .before .before .before .before .before .before .before .before .before .before .before .before .before .before .before .before .before .before .before .before, c .before .before .before .before .before .before .before .before .before .before .before .before .before .before .before .before .before .before .before .before .before .before .before .before .before .before .before .before .before .before .pre .1)
 
 same-length : tie.Need-same-length
-same-length c = search needs
+same-length c = c .before .before .before .before .before .before .before .before .before .before .line-done .kept .0
 
 same-length-2 : tie.Need-same-length-2
-same-length-2 c = search needs
+same-length-2 c = c .before .before .before .before .before .before .before .before .before .before .line-done .kept .1 .1 .0
 
 same-length-3 : tie.Need-same-length-3
-same-length-3 c = search needs
+same-length-3 c = c .before .before .before .before .before .before .before .before .before .before .line-done .kept .1 .1 .1 .0
 
 same-length-4 : tie.Need-same-length-4
-same-length-4 c = search needs
+same-length-4 c = c .before .before .before .before .before .before .before .before .before .before .line-done .kept .1 .1 .1 .1 .0
 
 same-length-5 : tie.Need-same-length-5
-same-length-5 c = search needs
+same-length-5 c = c .before .before .before .before .before .before .before .before .before .before .line-done .kept .1 .1 .1 .1 .1 .1 .0
 
 returns-3 : tie.Need-returns-3
 returns-3 c =

@@ -1,4 +1,4 @@
--- `script::short::short_lines` meets its contract: the invariant is that the lines so far were carried out. Assumes nothing.
+-- `short::short_lines` meets its contract: the invariant is that the lines so far were carried out. Assumes nothing.
 use mathlib.Core.Path.{_≡_, refl, _∙_}
 use mathlib.Core.Bool.{true}
 use Prim.Native.Nat.{_-_}
@@ -6,10 +6,10 @@ use native.Mathlib.Omega.{arith}
 use lib.ListN.{length}
 use Rattle.layout.specs.Layout.{isRecord, decoded}
 use Rattle.session.specs.Session.{world}
-use Rattle.script.specs.Pieces.{Moves}
-use Rattle.script.proofs.Moves.{moves-none, moves-on}
-use Rattle.script.proofs.short.short_lines.Statement.{statement}
-use Rattle.script.proofs.short.short_lines.Tie as tie
+use Rattle.short.specs.Aside.{Moves}
+use Rattle.short.proofs.Standing.{moves-none, moves-on}
+use Rattle.short.proofs.short_lines.Statement.{statement}
+use Rattle.short.proofs.short_lines.Tie as tie
 
 abbrev Inv-loop : tie.InvT-loop
 Inv-loop state₀ rom ram₀ store₀ image₀ piece from out₀ at i₀ to₀ state ram store image out i to =

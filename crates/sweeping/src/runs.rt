@@ -1,8 +1,8 @@
-// Reads, writes and ticks one after the other, as `script` reads them: such a line's kind says where its LF is to be, so none is looked for.
+// Reads, writes and ticks one after the other, as `short` reads them: such a line's kind says where its LF is to be, so none is looked for.
 use super::Swept;
 use auditing::line::line_audited;
 use lines::line::frame_of;
-use script::short::is_malformed;
+use short::is_malformed;
 ghost use mathlib.Core.Path.{_≡_};
 ghost use mathlib.Core.Bool.{true};
 ghost use Prim.Native.Nat.{_+_, _≤_, _<_};

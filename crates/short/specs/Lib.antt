@@ -1,0 +1,2 @@
+-- What lines of a piece leave that are read where they stand.
+pub mod Aside
