@@ -20,7 +20,7 @@ use Rattle.auditing.specs.Line.{Audited, auditOf, auditAll}
 use Rattle.auditing.specs.Aside.{Audits}
 use Rattle.audited.proofs.Sessions.{world-append, book-append}
 use Rattle.audited.proofs.Loop.{noEnd, ended-line}
-use Rattle.sweeping.specs.Aside.{sweptBy, Sweeps}
+use Rattle.sweeping.specs.Aside.{sweptBy, Sweeps, Strides}
 
 -- a line ends, and there is room for its event
 pub went-on : (end n room : ℕ) (r : Bool) → r ≡ (ltb end n && leb 256 room) → r ≡ true → (end < n) × (256 ≤ room)
@@ -151,3 +151,28 @@ module _ (rom : List ℕ) (w₀ : World) (b₀ piece out₀ : List ℕ) (w : Wor
       end = a .end ∙ ap (λ (k : ℕ). k + length (here .text)) (s .end) ∙ sym (length-append before (here .text)) ∙ ap length text-now;
       room = omega (arith, a .few);
     }
+
+module _ (rom piece : List ℕ) (w : World) (b out : List ℕ) (i at : ℕ) where
+  -- no line is played
+  pub strides-none : i ≤ length piece → at ≤ length out → Strides rom piece w b out i at w b out i at
+  strides-none h r = record { onward = omega arith; inside = h; room = r; swept = λ _ _ _ _ s. s }
+
+  -- a line is played
+  pub strides-line : (end : ℕ) → Ends piece i end → end < length piece → at + 256 ≤ length out → (w′ : World) (b′ out′ : List ℕ) (at′ : ℕ)
+      → Audits (auditOf rom w b (take (end - i) (drop i piece))) w′ out at b′ out′ at′ → Strides rom piece w b out i at w′ b′ out′ (end + 1) at′
+  strides-line end e l r w′ b′ out′ at′ a = record {
+    onward = omega (arith, e .after);
+    inside = omega arith;
+    room = omega (arith, a .few);
+    swept = λ w₀ b₀ out₀ k s. sweeps-line rom w₀ b₀ piece out₀ w b out i at s end e l w′ b′ out′ at′ a (omega (arith, k));
+  }
+
+  -- and lines after those
+  pub strides-on : (w′ : World) (b′ out′ : List ℕ) (i′ at′ : ℕ) → Strides rom piece w b out i at w′ b′ out′ i′ at′ → length out′ ≡ length out
+      → (w″ : World) (b″ out″ : List ℕ) (i″ at″ : ℕ) → Strides rom piece w′ b′ out′ i′ at′ w″ b″ out″ i″ at″ → Strides rom piece w b out i at w″ b″ out″ i″ at″
+  strides-on w′ b′ out′ i′ at′ m k w″ b″ out″ i″ at″ n = record {
+    onward = omega (arith, m .onward, n .onward);
+    inside = n .inside;
+    room = omega (arith, n .room);
+    swept = λ w₀ b₀ out₀ h s. n .swept w₀ b₀ out₀ (k ∙ h) (m .swept w₀ b₀ out₀ h s);
+  }

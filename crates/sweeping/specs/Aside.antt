@@ -22,3 +22,11 @@ pub record Sweeps (rom : List ℕ) (w : World) (b piece out : List ℕ) (w′ : 
   pub text : out′ ≡ placed out 0 (sweptBy rom w b (take used piece) .text)
   pub end : written ≡ length (sweptBy rom w b (take used piece) .text)
   pub room : written ≤ length out
+
+-- lines are played from one place of a piece to another: whatever was swept to the first is swept to the second
+pub record Strides (rom piece : List ℕ) (w : World) (b out : List ℕ) (i at : ℕ) (w′ : World) (b′ out′ : List ℕ) (i′ at′ : ℕ) : Type 0 where
+  pub onward : i ≤ i′
+  pub inside : i′ ≤ length piece
+  pub room : at′ ≤ length out
+  pub swept : (w₀ : World) (b₀ out₀ : List ℕ) → length out ≡ length out₀ → Sweeps rom w₀ b₀ piece out₀ w b out i at
+      → Sweeps rom w₀ b₀ piece out₀ w′ b′ out′ i′ at′

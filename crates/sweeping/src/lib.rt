@@ -1,6 +1,9 @@
 // Whole lines of a recording, one after the other, as long as there is room for their events: what a program plays a piece by.
+mod runs;
+
 use auditing::line::line_audited;
 use layout::is_record;
+use runs::short_lines;
 use short::line_end;
 ghost use mathlib.Core.Path.{_≡_};
 ghost use mathlib.Core.Bool.{true, _&&_};
@@ -48,7 +51,9 @@ fn sweep(
     let mut end = line_end(piece, 0);
     while goes_on(end, piece.len(), out.len() - at) {
         at = line_audited(book, state, rom, ram, store, image, &piece[i..end], out, at);
-        i = end + 1;
+        let next = short_lines(book, state, rom, ram, store, image, piece, end + 1, out, at);
+        i = next.used;
+        at = next.written;
         end = line_end(piece, i);
     }
     Swept {
