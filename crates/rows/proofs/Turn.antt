@@ -2,7 +2,8 @@
 -- is the row's pixel. Assumes nothing.
 use mathlib.Core.List.{List}
 use mathlib.Core.Path.{_≡_, ap, _∙_}
-use Prim.Native.Nat.{ℕ, _+_, _^_, _<_}
+use Prim.Native.Nat.{ℕ, _+_, _^_, _<_, _≤_}
+use native.Mathlib.Omega.{arith}
 use lib.IntN.{ℤ}
 use lib.ListN.{set}
 use lib.Signed.{mag}
@@ -30,3 +31,7 @@ module _ (mode q : ℕ) {lit : ℕ → ℕ → ℕ} {x row : ℕ} {n : List (Lis
     -- put at its column it makes the row longer by one
     pub turn : {out : List ℕ} → Filled (pixelBy mode q lit row) 128 x out → x < 128 → Filled (pixelBy mode q lit row) 128 (x + 1) (set out x v)
     turn r h = filled-more (pixelBy mode q lit row) v r h right
+
+-- a loop that begins again at a column before
+pub fewer : {f : ℕ → ℕ} {size n : ℕ} {out : List ℕ} (m : ℕ) → Filled f size n out → m ≤ n → Filled f size m out
+fewer m r h = record { whole = r .whole; same = λ k l. r .same k (omega arith) }

@@ -20,14 +20,18 @@ fn raise(v: i32) -> u8
     (v + 128) as u8
 }
 
-// A row of step 4 values with 128 added, by mode: one loop in which nothing is asked of the mode, the columns at the two edges apart.
+// A row of step 4 values with 128 added, by mode: loops in which nothing is asked of the mode, the columns at the two edges apart. The columns between them
+// are 112 and 16, two of them done twice: multiples of 16, so that none is left over from a vector.
 fn row_2(store: &[u8], quarters: u8, row: usize, out: &mut [u8])
     requires { ⌜ Inside (length (now store)) 0 row 8 120 ⌝ }
     requires { ⌜ (quarters ≤ 20) × (length (now out) ≡ 128) ⌝ }
     ensures { λ _. ⌜ now (out .exit) ≡ rowBy 0x2 quarters (byteAt (now (store .entry))) row ⌝ }
 {
     out[0] = raise(filters::mode_2(quarters, nine(store, 0, row)));
-    for x in 1..127 {
+    for x in 1..113 {
+        out[x] = raise(filters::mode_2(quarters, nine(store, x, row)));
+    }
+    for x in 111..127 {
         out[x] = raise(filters::mode_2(quarters, nine(store, x, row)));
     }
     out[127] = raise(filters::mode_2(quarters, nine(store, 127, row)));
@@ -39,7 +43,10 @@ fn row_3(store: &[u8], quarters: u8, row: usize, out: &mut [u8])
     ensures { λ _. ⌜ now (out .exit) ≡ rowBy 0x3 quarters (byteAt (now (store .entry))) row ⌝ }
 {
     out[0] = raise(filters::mode_3(quarters, nine(store, 0, row)));
-    for x in 1..127 {
+    for x in 1..113 {
+        out[x] = raise(filters::mode_3(quarters, nine(store, x, row)));
+    }
+    for x in 111..127 {
         out[x] = raise(filters::mode_3(quarters, nine(store, x, row)));
     }
     out[127] = raise(filters::mode_3(quarters, nine(store, 127, row)));
@@ -72,7 +79,10 @@ fn row_e(store: &[u8], quarters: u8, row: usize, out: &mut [u8])
     ensures { λ _. ⌜ now (out .exit) ≡ rowBy 0xE quarters (byteAt (now (store .entry))) row ⌝ }
 {
     out[0] = raise(filters::mode_e(quarters, nine(store, 0, row)));
-    for x in 1..127 {
+    for x in 1..113 {
+        out[x] = raise(filters::mode_e(quarters, nine(store, x, row)));
+    }
+    for x in 111..127 {
         out[x] = raise(filters::mode_e(quarters, nine(store, x, row)));
     }
     out[127] = raise(filters::mode_e(quarters, nine(store, 127, row)));
@@ -84,7 +94,10 @@ fn row_f(store: &[u8], quarters: u8, row: usize, out: &mut [u8])
     ensures { λ _. ⌜ now (out .exit) ≡ rowBy 0xF quarters (byteAt (now (store .entry))) row ⌝ }
 {
     out[0] = raise(filters::mode_f(quarters, nine(store, 0, row)));
-    for x in 1..127 {
+    for x in 1..113 {
+        out[x] = raise(filters::mode_f(quarters, nine(store, x, row)));
+    }
+    for x in 111..127 {
         out[x] = raise(filters::mode_f(quarters, nine(store, x, row)));
     }
     out[127] = raise(filters::mode_f(quarters, nine(store, 127, row)));

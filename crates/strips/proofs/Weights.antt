@@ -5,7 +5,8 @@ use mathlib.Core.List.{List, [], _∷_}
 use Prim.Native.Nat.{ℕ, _+_, _*_, _/_, _%_, _<_, _≤_}
 use native.Mathlib.Nat.{add-zero}
 use native.Mathlib.Omega.{arith}
-use lib.Dec.{ltb, lit<}
+use lib.Dec.{ltb, leb, lit<}
+use borrow.Author.Tests.{lt-ltb, le-ltb, le-leb, lt-leb}
 use lib.ListN.{getD}
 use Rattle.laws.specs.Pick.{pick}
 use Rattle.laws.specs.Lists.{listed, packed}
@@ -16,11 +17,16 @@ use Rattle.strips.specs.Aside.{eight, weightOf, thresholdAt, spreadOf, s
 
 -- ---- one column: the tests that a shade is made of, made of its bits
 
-pub low-picked : (a b c : Bool) (w : ℕ) → pick a w (pick b 0 (pick c w 0)) ≡ pick {X = ℕ} a 3 (pick b 2 (pick c 1 0)) % 2 * w
-low-picked true b c w = omega arith
-low-picked false true c w = omega arith
-low-picked false false true w = omega arith
-low-picked false false false w = omega arith
+pub low-picked : (a : Bool) (m h v w : ℕ) → pick a w (pick (leb h v) 0 (pick (leb m v) w 0)) ≡ pick {X = ℕ} a 3 (pick (ltb v m) 2 (pick (ltb v h) 1 0)) % 2 * w
+low-picked true m h v w = omega arith
+low-picked false m h v w =
+    split v h
+    (λ below. split v m
+    (λ dark. simp (lt-leb h v below, lt-leb m v dark, lt-ltb v m dark) (omega arith))
+    (λ light. simp (lt-leb h v below, le-leb m v light, le-ltb v m light, lt-ltb v h below) (omega arith)))
+    (λ above. split v m
+    (λ dark. simp (le-leb h v above, lt-ltb v m dark) (omega arith))
+    (λ light. simp (le-leb h v above, le-ltb v m light, le-ltb v h above) (omega arith)))
 
 pub high-picked : (a b c : Bool) (w : ℕ) → pick a w (pick b w 0) ≡ pick {X = ℕ} a 3 (pick b 2 (pick c 1 0)) / 2 * w
 high-picked true b c w = omega arith

@@ -8,11 +8,11 @@ ghost use Rattle.laws.specs.Lists.{listed};
 ghost use Rattle.sensor.specs.Shade.{shadeBy};
 ghost use Rattle.strips.specs.Aside.{lowOf, highOf, spreadOf, lowBy, highBy, sumOf, Weighed};
 
-// What a value adds to the byte of low bits, and to that of high bits, w the weight of its place.
+// What a value adds to the byte of low bits, and to that of high bits, w the weight of its place. The tests are put so that each is a vector's own.
 fn low_weight(v: u8, l: u8, m: u8, h: u8, w: u8) -> u8
     ensures { λ r. ⌜ r ≡ shadeBy l m h v % 2 * w ⌝ }
 {
-    either(v < l, w, either(v < m, 0, either(v < h, w, 0)))
+    either(v < l, w, either(h <= v, 0, either(m <= v, w, 0)))
 }
 
 fn high_weight(v: u8, l: u8, m: u8, h: u8, w: u8) -> u8

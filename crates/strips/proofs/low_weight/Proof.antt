@@ -1,4 +1,4 @@
--- `strips::low_weight` meets its contract: each test is the definition's. Assumes nothing.
+-- `strips::low_weight` meets its contract: its tests give what the definition's give. Assumes nothing.
 use borrow.Author.Needs.{needs}
 use lib.Dec.{ltb}
 use Rattle.strips.proofs.Weights.{low-picked}
@@ -9,7 +9,7 @@ returns : tie.Need-returns
 returns c =
     let a = c .before .before .before .args in
     rw (c .either3 .ensures, c .before .either2 .ensures, c .before .before .either .ensures)
-    (low-picked (ltb (a .v) (a .l)) (ltb (a .v) (a .m)) (ltb (a .v) (a .h)) (a .w))
+    (low-picked (ltb (a .v) (a .l)) (a .m) (a .h) (a .v) (a .w))
 
 pub low-weight-spec : {M : Type 1} → statement M
 low-weight-spec =
