@@ -3,62 +3,62 @@
 use mathlib.Core.List.{List, []}
 use mathlib.Core.Path.{_≡_, refl, ap, _∙_}
 use Prim.Native.Nat.{ℕ, zero, suc, _^_, _≤_, _<_}
-use native.Mathlib.Nat.{le-refl, le-trans, lt-of-lt-of-le}
-use lib.IntN.{ℤ, pos, natAbs}
+use native.Mathlib.Nat.{le-trans, lt-of-lt-of-le}
+use lib.IntN.{ℤ, pos, natAbs, _+ℤ_, _-ℤ_, _*ℤ_}
 use lib.Dec.{lit≤, lit<}
 use lib.ListN.{getD}
 use lib.Signed.{mag}
 use mir.Syntax.{Width, w8, w16, w32, w64, w128}
 use mir.Val.{SFits, hbits, toZ, ofZ}
-use Rattle.laws.proofs.Signed.{E, val, sub, mul, within, abs-mag, got}
+use Rattle.laws.proofs.Signed.{E, val, add, within, abs-mag, got}
 use Rattle.filters.specs.Edge.{held, nine, acrossOf, uprightOf, aroundOf}
-use Rattle.filters.specs.Aside.{SmallRow, threeIn, nineIn, Small}
+use Rattle.filters.specs.Aside.{SmallRow, threeIn, nineIn, Small, sidesOf, endsOf, fourOf, over}
 use Rattle.filters.proofs.Facts.{held-small}
+use Rattle.filters.proofs.Weights.{less}
 
 module _ (n : List (List ℤ)) (s : Small n) where
   abbrev pub px : ℕ → ℕ → E w16
   px i j = val 128 (nine n i j) (abs-mag (nine n i j) (s i j))
 
-  -- k times P
-  abbrev pub times : ℕ → E w16
-  times k = mul (val k (pos k) (le-refl k)) (px 1 1)
+  -- W + E, N + S, + E, and + W
+  abbrev pub side : E w16
+  side = add (px 1 0) (px 1 2)
 
-  -- 2P − W, and − E
-  abbrev pub across₁ : E w16
-  across₁ = sub (times 2) (px 1 0)
+  abbrev pub end : E w16
+  end = add (px 0 1) (px 2 1)
 
-  abbrev pub across₂ : E w16
-  across₂ = sub across₁ (px 1 2)
+  abbrev pub three : E w16
+  three = add end (px 1 2)
 
-  -- 2P − N, and − S
-  abbrev pub upright₁ : E w16
-  upright₁ = sub (times 2) (px 0 1)
+  abbrev pub all : E w16
+  all = add three (px 1 0)
 
-  abbrev pub upright₂ : E w16
-  upright₂ = sub upright₁ (px 2 1)
+  -- none of the sums is larger than 512
+  pub sides-size : natAbs (sidesOf n) ≤ 512
+  sides-size = le-trans (within side) (lit≤ tt)
 
-  -- 4P − N, − S, − E, and − W
-  abbrev pub around₁ : E w16
-  around₁ = sub (times 4) (px 0 1)
+  pub ends-size : natAbs (endsOf n) ≤ 512
+  ends-size = le-trans (within end) (lit≤ tt)
 
-  abbrev pub around₂ : E w16
-  around₂ = sub around₁ (px 2 1)
+  pub four-size : natAbs (fourOf n) ≤ 512
+  four-size = le-trans (within all) (lit≤ tt)
 
-  abbrev pub around₃ : E w16
-  around₃ = sub around₂ (px 1 2)
+-- less the sum of the neighbours is less each of them
+module _ (n : List (List ℤ)) where
+  pub across-over : over n 2 (sidesOf n) ≡ acrossOf n
+  across-over = less (pos 2 *ℤ nine n 1 1) (nine n 1 0) (nine n 1 2)
 
-  abbrev pub around₄ : E w16
-  around₄ = sub around₃ (px 1 0)
+  pub upright-over : over n 2 (endsOf n) ≡ uprightOf n
+  upright-over = less (pos 2 *ℤ nine n 1 1) (nine n 0 1) (nine n 2 1)
 
-  -- none of the sums is larger than 1,024
-  pub across-size : natAbs (acrossOf n) ≤ 1024
-  across-size = le-trans (within across₂) (lit≤ tt)
-
-  pub upright-size : natAbs (uprightOf n) ≤ 1024
-  upright-size = le-trans (within upright₂) (lit≤ tt)
-
-  pub around-size : natAbs (aroundOf n) ≤ 1024
-  around-size = le-trans (within around₄) (lit≤ tt)
+  pub around-over : over n 4 (fourOf n) ≡ aroundOf n
+  around-over =
+      let P = pos 4 *ℤ nine n 1 1 in
+      let N = nine n 0 1 in
+      let S = nine n 2 1 in
+      let E = nine n 1 2 in
+      let W = nine n 1 0 in
+      less P (N +ℤ S +ℤ E) W ∙ ap (λ x. x -ℤ W) (less P (N +ℤ S) E ∙ ap (λ x. x -ℤ E) (less P N S))
 
 -- what r is read back as, at a width
 abbrev back : Width → ℤ → ℤ
@@ -114,7 +114,7 @@ held-mag e h = rw h (held-small e)
 pub widened : {r : ℤ} (e : ℤ) → r ≡ held e → SFits w32 (back w16 r)
 widened {r} e h = cast-fits w16 w32 r (held-mag e h)
 
--- a mode's value: of a sum d of the narrowed values m, the quarters cut (f), then held
-pub filtered : (f : List (List ℤ) → ℤ → ℤ) (s : List (List ℤ) → ℤ) (n : List (List ℤ)) {m : List (List ℤ)} {r e d : ℤ} → m ≡ nineIn n → Fine e → Fine d → r ≡ held (back w16 e) → e ≡ f m (back w16 d) → d ≡ s m → back w32 (back w16 r) ≡ held (f (nineIn n) (s (nineIn n)))
-filtered f s n em he hd er ee ed =
-    cast-read w16 w32 _ (held-mag _ er) ∙ er ∙ ap held (got w16 he (ee ∙ ap (f _) (got w16 hd ed))) ∙ ap (λ (m : List (List ℤ)). held (f m (s m))) em
+-- a mode's value: of k times P less a sum b of its neighbours, which is the mode's sum d, among the narrowed values m; the quarters cut (f), then held
+pub filtered : (f : List (List ℤ) → ℤ → ℤ) (k : ℕ) (b d : List (List ℤ) → ℤ) → ((m : List (List ℤ)) → over m k (b m) ≡ d m) → (n : List (List ℤ)) {m : List (List ℤ)} {r e s : ℤ} → m ≡ nineIn n → Fine e → Fine s → r ≡ held (back w16 e) → e ≡ f m (over m k (back w16 s)) → s ≡ b m → back w32 (back w16 r) ≡ held (f (nineIn n) (d (nineIn n)))
+filtered f k b d law n {m} em he hs er ee es =
+    cast-read w16 w32 _ (held-mag _ er) ∙ er ∙ ap held (got w16 he (ee ∙ ap (f m) (ap (over m k) (got w16 hs es) ∙ law m))) ∙ ap (λ (m : List (List ℤ)). held (f m (d m))) em

@@ -1,8 +1,8 @@
 -- Aside: devices of contracts between functions. Nothing here need be believed: every use of it is tied by a proof to the definitions beside it.
--- The range of the nine values; the values written out, as the narrowed ones are made. Assumes nothing.
+-- The range of the nine values; the values written out, as the narrowed ones are made; the sums of neighbours. Assumes nothing.
 use mathlib.Core.List.{List, [], _∷_}
 use Prim.Native.Nat.{ℕ, _<_}
-use lib.IntN.{ℤ, pos}
+use lib.IntN.{ℤ, pos, _+ℤ_, _-ℤ_, _*ℤ_}
 use lib.Signed.{mag}
 use lib.ListN.{getD}
 use Rattle.filters.specs.Edge.{nine}
@@ -19,3 +19,19 @@ threeIn n = getD n 0 (pos 0) ∷ getD n 1 (pos 0) ∷ getD n 2 (pos 0) ∷ []
 
 abbrev pub nineIn : List (List ℤ) → List (List ℤ)
 nineIn n = threeIn (getD n 0 []) ∷ threeIn (getD n 1 []) ∷ threeIn (getD n 2 []) ∷ []
+
+-- W + E
+abbrev pub sidesOf : List (List ℤ) → ℤ
+sidesOf n = nine n 1 0 +ℤ nine n 1 2
+
+-- N + S
+abbrev pub endsOf : List (List ℤ) → ℤ
+endsOf n = nine n 0 1 +ℤ nine n 2 1
+
+-- N + S + E + W
+abbrev pub fourOf : List (List ℤ) → ℤ
+fourOf n = nine n 0 1 +ℤ nine n 2 1 +ℤ nine n 1 2 +ℤ nine n 1 0
+
+-- k times P less what its k neighbours add up to
+abbrev pub over : List (List ℤ) → ℕ → ℤ → ℤ
+over n k beside = pos k *ℤ nine n 1 1 -ℤ beside

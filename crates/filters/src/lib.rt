@@ -4,8 +4,8 @@ ghost use Prim.Native.Nat.{_+_, _-_, _/_, _<_, _≤_};
 ghost use lib.IntN.{pos, natAbs};
 ghost use lib.Signed.{nonNeg, quotZ};
 ghost use Rattle.laws.specs.Pick.{pick};
-ghost use Rattle.filters.specs.Edge.{held, acrossOf, uprightOf, aroundOf, enhanced, extracted, mode2, mode3, modeC, modeD, modeE, modeF};
-ghost use Rattle.filters.specs.Aside.{SmallRow, threeIn, nineIn, Small};
+ghost use Rattle.filters.specs.Edge.{held, enhanced, extracted, mode2, mode3, modeC, modeD, modeE, modeF};
+ghost use Rattle.filters.specs.Aside.{SmallRow, threeIn, nineIn, Small, sidesOf, endsOf, fourOf, over};
 
 // Held to -128..127.
 pub fn hold(v: i32) -> i32
@@ -48,28 +48,28 @@ fn narrow(n: [[i32; 3]; 3]) -> [[i16; 3]; 3]
     [narrow_row(n[0]), narrow_row(n[1]), narrow_row(n[2])]
 }
 
-// 2P - W - E.
-fn across(n: [[i16; 3]; 3]) -> i16
+// W + E.
+fn sides(n: [[i16; 3]; 3]) -> i16
     requires { ⌜ Small n ⌝ }
-    ensures { λ r. ⌜ r ≡ acrossOf n ⌝ }
+    ensures { λ r. ⌜ r ≡ sidesOf n ⌝ }
 {
-    2 * n[1][1] - n[1][0] - n[1][2]
+    n[1][0] + n[1][2]
 }
 
-// 2P - N - S.
-fn upright(n: [[i16; 3]; 3]) -> i16
+// N + S.
+fn ends(n: [[i16; 3]; 3]) -> i16
     requires { ⌜ Small n ⌝ }
-    ensures { λ r. ⌜ r ≡ uprightOf n ⌝ }
+    ensures { λ r. ⌜ r ≡ endsOf n ⌝ }
 {
-    2 * n[1][1] - n[0][1] - n[2][1]
+    n[0][1] + n[2][1]
 }
 
-// 4P - N - S - E - W.
-fn around(n: [[i16; 3]; 3]) -> i16
+// N + S + E + W.
+fn four(n: [[i16; 3]; 3]) -> i16
     requires { ⌜ Small n ⌝ }
-    ensures { λ r. ⌜ r ≡ aroundOf n ⌝ }
+    ensures { λ r. ⌜ r ≡ fourOf n ⌝ }
 {
-    4 * n[1][1] - n[0][1] - n[2][1] - n[1][2] - n[1][0]
+    n[0][1] + n[2][1] + n[1][2] + n[1][0]
 }
 
 // 3 for a number below zero and else 0, from its sign bits.
@@ -88,21 +88,22 @@ fn quarter(v: i16) -> i16
     (v + below_zero(v) as i16) >> 2
 }
 
-// P + d times α, the quarters cut toward zero.
-fn enhance(quarters: u8, n: [[i16; 3]; 3], d: i16) -> i16
-    requires { ⌜ Small n ⌝ }
-    requires { ⌜ (quarters ≤ 20) × (natAbs d ≤ 1024) ⌝ }
-    ensures { λ r. ⌜ r ≡ enhanced quarters n d ⌝ }
+// P + d times α, the quarters cut toward zero: d is k times P less what P's k neighbours add up to, and P is weighed once.
+fn enhance(quarters: u8, n: [[i16; 3]; 3], k: u8, beside: i16) -> i16
+    requires { ⌜ (quarters ≤ 20) × Small n ⌝ }
+    requires { ⌜ (k ≤ 4) × (natAbs beside ≤ 512) ⌝ }
+    ensures { λ r. ⌜ r ≡ enhanced quarters n (over n k beside) ⌝ }
 {
-    quarter(4 * n[1][1] + quarters as i16 * d)
+    quarter((4 + k as i16 * quarters as i16) * n[1][1] - quarters as i16 * beside)
 }
 
-// d times α, the quarters cut toward zero.
-fn extract(quarters: u8, d: i16) -> i16
-    requires { ⌜ (quarters ≤ 20) × (natAbs d ≤ 1024) ⌝ }
-    ensures { λ r. ⌜ r ≡ extracted quarters d ⌝ }
+// d times α, likewise.
+fn extract(quarters: u8, n: [[i16; 3]; 3], k: u8, beside: i16) -> i16
+    requires { ⌜ (quarters ≤ 20) × Small n ⌝ }
+    requires { ⌜ (k ≤ 4) × (natAbs beside ≤ 512) ⌝ }
+    ensures { λ r. ⌜ r ≡ extracted quarters (over n k beside) ⌝ }
 {
-    quarter(quarters as i16 * d)
+    quarter(k as i16 * quarters as i16 * n[1][1] - quarters as i16 * beside)
 }
 
 // The filters of modes 2, 3, C, D, E and F, worked out in 16 bits.
@@ -111,7 +112,7 @@ pub fn mode_2(quarters: u8, n: [[i32; 3]; 3]) -> i32
     ensures { λ r. ⌜ r ≡ mode2 quarters n ⌝ }
 {
     let m = narrow(n);
-    hold_16(enhance(quarters, m, across(m))) as i32
+    hold_16(enhance(quarters, m, 2, sides(m))) as i32
 }
 
 pub fn mode_3(quarters: u8, n: [[i32; 3]; 3]) -> i32
@@ -119,7 +120,7 @@ pub fn mode_3(quarters: u8, n: [[i32; 3]; 3]) -> i32
     ensures { λ r. ⌜ r ≡ mode3 quarters n ⌝ }
 {
     let m = narrow(n);
-    hold_16(extract(quarters, across(m))) as i32
+    hold_16(extract(quarters, m, 2, sides(m))) as i32
 }
 
 pub fn mode_c(quarters: u8, n: [[i32; 3]; 3]) -> i32
@@ -127,7 +128,7 @@ pub fn mode_c(quarters: u8, n: [[i32; 3]; 3]) -> i32
     ensures { λ r. ⌜ r ≡ modeC quarters n ⌝ }
 {
     let m = narrow(n);
-    hold_16(enhance(quarters, m, upright(m))) as i32
+    hold_16(enhance(quarters, m, 2, ends(m))) as i32
 }
 
 pub fn mode_d(quarters: u8, n: [[i32; 3]; 3]) -> i32
@@ -135,7 +136,7 @@ pub fn mode_d(quarters: u8, n: [[i32; 3]; 3]) -> i32
     ensures { λ r. ⌜ r ≡ modeD quarters n ⌝ }
 {
     let m = narrow(n);
-    hold_16(extract(quarters, upright(m))) as i32
+    hold_16(extract(quarters, m, 2, ends(m))) as i32
 }
 
 pub fn mode_e(quarters: u8, n: [[i32; 3]; 3]) -> i32
@@ -143,7 +144,7 @@ pub fn mode_e(quarters: u8, n: [[i32; 3]; 3]) -> i32
     ensures { λ r. ⌜ r ≡ modeE quarters n ⌝ }
 {
     let m = narrow(n);
-    hold_16(enhance(quarters, m, around(m))) as i32
+    hold_16(enhance(quarters, m, 4, four(m))) as i32
 }
 
 pub fn mode_f(quarters: u8, n: [[i32; 3]; 3]) -> i32
@@ -151,5 +152,5 @@ pub fn mode_f(quarters: u8, n: [[i32; 3]; 3]) -> i32
     ensures { λ r. ⌜ r ≡ modeF quarters n ⌝ }
 {
     let m = narrow(n);
-    hold_16(extract(quarters, around(m))) as i32
+    hold_16(extract(quarters, m, 4, four(m))) as i32
 }

@@ -1,24 +1,42 @@
 -- `filters::enhance` meets its contract: each step is an expression whose bound computes, and a quarter of the last is the definition's. Assumes nothing.
 use borrow.Author.Needs.{needs}
 use mathlib.Core.Path.{ap, _∙_}
+use native.Mathlib.Nat.{le-refl}
 use lib.IntN.{pos}
 use lib.Signed.{quotZ}
 use mir.Syntax.{w16}
-use Rattle.laws.proofs.Signed.{E, val, add, mul, fits, got, read}
+use Rattle.laws.proofs.Signed.{E, val, add, sub, mul, fits, got, read}
+use Rattle.filters.specs.Edge.{nine}
 use Rattle.filters.proofs.Quarters.{sized}
-use Rattle.filters.proofs.Sums.{times}
+use Rattle.filters.proofs.Sums.{px}
+use Rattle.filters.proofs.Weights.{weighed-more}
 use Rattle.filters.proofs.enhance.Statement.{statement}
 use Rattle.filters.proofs.enhance.Tie as tie
 
 module _ (c : tie.Start) where
-  abbrev p : E w16
-  p = times (c .args .t2) (c .pre .0) 4
+  abbrev q : E w16
+  q = val 20 (pos (c .args .quarters)) (c .pre .0 .0)
 
-  abbrev m : E w16
-  m = mul (val 20 (pos (c .args .quarters)) (c .pre .1 .0)) (val 1024 (c .args .d) (c .pre .1 .1))
+  abbrev kq : E w16
+  kq = mul (val 4 (pos (c .args .k)) (c .pre .1 .0)) q
+
+  abbrev more : E w16
+  more = add (val 4 (pos 4) (le-refl 4)) kq
+
+  abbrev own : E w16
+  own = mul more (px (c .args .t2) (c .pre .0 .1) 1 1)
+
+  abbrev beside : E w16
+  beside = mul q (val 512 (c .args .beside) (c .pre .1 .1))
 
   abbrev sum : E w16
-  sum = add p m
+  sum = sub own beside
+
+returns : tie.Need-returns
+returns c =
+    let s = c .before .before in
+    let a = s .args in
+    got w16 (c .quarter .ok) (c .quarter .ensures) ∙ ap (λ z. quotZ z (pos 4)) (read (sum s) tt ∙ weighed-more (nine (a .t2) 1 1) (a .k) (a .beside) 4 (a .quarters))
 
 pub enhance-spec : {M : Type 1} → statement M
 enhance-spec =
@@ -26,9 +44,13 @@ enhance-spec =
     (tie.spec
     (λ c. search needs)
     (λ c. search needs)
-    (λ c. fits (p (c .before)) tt)
+    (λ c. fits (kq c) tt)
+    (λ c. fits (more c) tt)
     (λ c. search needs)
-    (λ c. fits (m (c .before)) tt)
+    (λ c. search needs)
+    (λ c. fits (own (c .before)) tt)
+    (λ c. search needs)
+    (λ c. fits (beside (c .before)) tt)
     (λ c. fits (sum (c .before)) tt)
     (λ c κs. sized (sum (c .before)) tt tt)
-    (λ c. got w16 (c .quarter .ok) (c .quarter .ensures) ∙ ap (λ z. quotZ z (pos 4)) (read (sum (c .before .before)) tt)))
+    returns)

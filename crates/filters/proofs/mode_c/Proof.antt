@@ -1,7 +1,9 @@
 -- `filters::mode_c` meets its contract, from what its callees ensure: the sum is of a size that the next step takes. Assumes nothing.
 use borrow.Author.Needs.{needs}
+use lib.Dec.{lit≤}
 use Rattle.filters.specs.Edge.{uprightOf, enhanced, modeC}
-use Rattle.filters.proofs.Sums.{upright-size, nine-small, handed, widened, filtered}
+use Rattle.filters.specs.Aside.{endsOf}
+use Rattle.filters.proofs.Sums.{ends-size, upright-over, nine-small, handed, widened, filtered}
 use Rattle.filters.proofs.mode_c.Statement.{statement}
 use Rattle.filters.proofs.mode_c.Tie as tie
 
@@ -9,8 +11,8 @@ enhance-requires : tie.Need-enhance-requires
 enhance-requires c κs =
     let s = c .before .before in
     let small = nine-small (s .args .n) (c .before .narrow .ensures) (s .pre .1) in
-    let size = handed (c .upright .ok) (c .upright .ensures) (upright-size (c .before .narrow .result) small) in
-    (small, (s .pre .0, size))
+    let size = handed (c .ends .ok) (c .ends .ensures) (ends-size (c .before .narrow .result) small) in
+    ((s .pre .0, small), (lit≤ tt, size))
 
 returns : tie.Need-returns
 unfolding modeC
@@ -18,7 +20,7 @@ returns c =
     let e = c .before in
     let d = e .before in
     let a = d .before .before .args in
-    filtered (enhanced (a .quarters)) uprightOf (a .n) (d .before .narrow .ensures) (e .enhance .ok) (d .upright .ok) (c .hold-16 .ensures) (e .enhance .ensures) (d .upright .ensures)
+    filtered (enhanced (a .quarters)) 2 endsOf uprightOf upright-over (a .n) (d .before .narrow .ensures) (e .enhance .ok) (d .ends .ok) (c .hold-16 .ensures) (e .enhance .ensures) (d .ends .ensures)
 
 pub mode-c-spec : {M : Type 1} → statement M
 mode-c-spec =

@@ -1,7 +1,9 @@
 -- `filters::mode_d` meets its contract, from what its callees ensure: the sum is of a size that the next step takes. Assumes nothing.
 use borrow.Author.Needs.{needs}
+use lib.Dec.{lit≤}
 use Rattle.filters.specs.Edge.{uprightOf, extracted, modeD}
-use Rattle.filters.proofs.Sums.{upright-size, nine-small, handed, widened, filtered}
+use Rattle.filters.specs.Aside.{endsOf}
+use Rattle.filters.proofs.Sums.{ends-size, upright-over, nine-small, handed, widened, filtered}
 use Rattle.filters.proofs.mode_d.Statement.{statement}
 use Rattle.filters.proofs.mode_d.Tie as tie
 
@@ -9,8 +11,8 @@ extract-requires : tie.Need-extract-requires
 extract-requires c κs =
     let s = c .before .before in
     let small = nine-small (s .args .n) (c .before .narrow .ensures) (s .pre .1) in
-    let size = handed (c .upright .ok) (c .upright .ensures) (upright-size (c .before .narrow .result) small) in
-    (s .pre .0, size)
+    let size = handed (c .ends .ok) (c .ends .ensures) (ends-size (c .before .narrow .result) small) in
+    ((s .pre .0, small), (lit≤ tt, size))
 
 returns : tie.Need-returns
 unfolding modeD
@@ -18,7 +20,7 @@ returns c =
     let e = c .before in
     let d = e .before in
     let a = d .before .before .args in
-    filtered (λ m. extracted (a .quarters)) uprightOf (a .n) (d .before .narrow .ensures) (e .extract .ok) (d .upright .ok) (c .hold-16 .ensures) (e .extract .ensures) (d .upright .ensures)
+    filtered (λ m. extracted (a .quarters)) 2 endsOf uprightOf upright-over (a .n) (d .before .narrow .ensures) (e .extract .ok) (d .ends .ok) (c .hold-16 .ensures) (e .extract .ensures) (d .ends .ensures)
 
 pub mode-d-spec : {M : Type 1} → statement M
 mode-d-spec =

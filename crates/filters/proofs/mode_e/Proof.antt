@@ -1,7 +1,9 @@
 -- `filters::mode_e` meets its contract, from what its callees ensure: the sum is of a size that the next step takes. Assumes nothing.
 use borrow.Author.Needs.{needs}
+use lib.Dec.{lit≤}
 use Rattle.filters.specs.Edge.{aroundOf, enhanced, modeE}
-use Rattle.filters.proofs.Sums.{around-size, nine-small, handed, widened, filtered}
+use Rattle.filters.specs.Aside.{fourOf}
+use Rattle.filters.proofs.Sums.{four-size, around-over, nine-small, handed, widened, filtered}
 use Rattle.filters.proofs.mode_e.Statement.{statement}
 use Rattle.filters.proofs.mode_e.Tie as tie
 
@@ -9,8 +11,8 @@ enhance-requires : tie.Need-enhance-requires
 enhance-requires c κs =
     let s = c .before .before in
     let small = nine-small (s .args .n) (c .before .narrow .ensures) (s .pre .1) in
-    let size = handed (c .around .ok) (c .around .ensures) (around-size (c .before .narrow .result) small) in
-    (small, (s .pre .0, size))
+    let size = handed (c .four .ok) (c .four .ensures) (four-size (c .before .narrow .result) small) in
+    ((s .pre .0, small), (lit≤ tt, size))
 
 returns : tie.Need-returns
 unfolding modeE
@@ -18,7 +20,7 @@ returns c =
     let e = c .before in
     let d = e .before in
     let a = d .before .before .args in
-    filtered (enhanced (a .quarters)) aroundOf (a .n) (d .before .narrow .ensures) (e .enhance .ok) (d .around .ok) (c .hold-16 .ensures) (e .enhance .ensures) (d .around .ensures)
+    filtered (enhanced (a .quarters)) 4 fourOf aroundOf around-over (a .n) (d .before .narrow .ensures) (e .enhance .ok) (d .four .ok) (c .hold-16 .ensures) (e .enhance .ensures) (d .four .ensures)
 
 pub mode-e-spec : {M : Type 1} → statement M
 mode-e-spec =
