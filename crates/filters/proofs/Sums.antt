@@ -115,6 +115,6 @@ pub widened : {r : ℤ} (e : ℤ) → r ≡ held e → SFits w32 (back w16 r)
 widened {r} e h = cast-fits w16 w32 r (held-mag e h)
 
 -- a mode's value: of k times P less a sum b of its neighbours, which is the mode's sum d, among the narrowed values m; the quarters cut (f), then held
-pub filtered : (f : List (List ℤ) → ℤ → ℤ) (k : ℕ) (b d : List (List ℤ) → ℤ) → ((m : List (List ℤ)) → over m k (b m) ≡ d m) → (n : List (List ℤ)) {m : List (List ℤ)} {r e s : ℤ} → m ≡ nineIn n → Fine e → Fine s → r ≡ held (back w16 e) → e ≡ f m (over m k (back w16 s)) → s ≡ b m → back w32 (back w16 r) ≡ held (f (nineIn n) (d (nineIn n)))
-filtered f k b d law n {m} em he hs er ee es =
-    cast-read w16 w32 _ (held-mag _ er) ∙ er ∙ ap held (got w16 he (ee ∙ ap (f m) (ap (over m k) (got w16 hs es) ∙ law m))) ∙ ap (λ (m : List (List ℤ)). held (f m (d m))) em
+pub filtered : (f : List (List ℤ) → ℤ → ℤ) (k : ℕ) (b d : List (List ℤ) → ℤ) → ((m : List (List ℤ)) → over m k (b m) ≡ d m) → (n : List (List ℤ)) {m : List (List ℤ)} {r s : ℤ} → m ≡ nineIn n → Fine s → r ≡ held (f m (over m k (back w16 s))) → s ≡ b m → back w32 (back w16 r) ≡ held (f (nineIn n) (d (nineIn n)))
+filtered f k b d law n {m} em hs er es =
+    cast-read w16 w32 _ (held-mag _ er) ∙ er ∙ ap (λ z. held (f m z)) (ap (over m k) (got w16 hs es) ∙ law m) ∙ ap (λ (m : List (List ℤ)). held (f m (d m))) em

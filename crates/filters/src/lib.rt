@@ -2,10 +2,9 @@
 ghost use mathlib.Core.Path.{_≡_};
 ghost use Prim.Native.Nat.{_+_, _-_, _/_, _<_, _≤_};
 ghost use lib.IntN.{pos, natAbs};
-ghost use lib.Signed.{nonNeg, quotZ};
-ghost use Rattle.laws.specs.Pick.{pick};
+ghost use lib.Signed.{quotZ};
 ghost use Rattle.filters.specs.Edge.{held, enhanced, extracted, mode2, mode3, modeC, modeD, modeE, modeF};
-ghost use Rattle.filters.specs.Aside.{SmallRow, threeIn, nineIn, Small, sidesOf, endsOf, fourOf, over};
+ghost use Rattle.filters.specs.Aside.{SmallRow, threeIn, nineIn, Small, sidesOf, endsOf, fourOf, over, topBits};
 
 // Held to -128..127.
 pub fn hold(v: i32) -> i32
@@ -72,38 +71,38 @@ fn four(n: [[i16; 3]; 3]) -> i16
     n[0][1] + n[2][1] + n[1][2] + n[1][0]
 }
 
-// 3 for a number below zero and else 0, from its sign bits.
-fn below_zero(v: i16) -> u16
-    ensures { λ r. ⌜ r ≡ pick (nonNeg v) 0 3 ⌝ }
+// The two top bits of a number: 3 below zero and else 0, but 2 and 1 far from it.
+fn top_bits(v: i16) -> u16
+    ensures { λ r. ⌜ r ≡ topBits v ⌝ }
 {
-    let signs = ((v >> 15) as i32 & 0xFFFF) as u16;
-    signs >> 14
+    let bits = (v as i32 & 0xFFFF) as u16;
+    bits >> 14
 }
 
-// A quarter of a number, cut toward zero: by shifts, which every target has for a vector, as it may not have a division.
-fn quarter(v: i16) -> i16
+// A quarter cut toward zero, then held: by shifts, which every target has for a vector. With top bits 2 or 1 it is beyond the range either way.
+fn held_quarter(v: i16) -> i16
     requires { ⌜ natAbs v ≤ 20992 ⌝ }
-    ensures { λ r. ⌜ r ≡ quotZ v (pos 4) ⌝ }
+    ensures { λ r. ⌜ r ≡ held (quotZ v (pos 4)) ⌝ }
 {
-    (v + below_zero(v) as i16) >> 2
+    hold_16((v + top_bits(v) as i16) >> 2)
 }
 
-// P + d times α, the quarters cut toward zero: d is k times P less what P's k neighbours add up to, and P is weighed once.
+// P + d times α, the quarters cut toward zero, then held: d is k times P less what P's k neighbours add up to, and P is weighed once.
 fn enhance(quarters: u8, n: [[i16; 3]; 3], k: u8, beside: i16) -> i16
     requires { ⌜ (quarters ≤ 20) × Small n ⌝ }
     requires { ⌜ (k ≤ 4) × (natAbs beside ≤ 512) ⌝ }
-    ensures { λ r. ⌜ r ≡ enhanced quarters n (over n k beside) ⌝ }
+    ensures { λ r. ⌜ r ≡ held (enhanced quarters n (over n k beside)) ⌝ }
 {
-    quarter((4 + k as i16 * quarters as i16) * n[1][1] - quarters as i16 * beside)
+    held_quarter((4 + k as i16 * quarters as i16) * n[1][1] - quarters as i16 * beside)
 }
 
 // d times α, likewise.
 fn extract(quarters: u8, n: [[i16; 3]; 3], k: u8, beside: i16) -> i16
     requires { ⌜ (quarters ≤ 20) × Small n ⌝ }
     requires { ⌜ (k ≤ 4) × (natAbs beside ≤ 512) ⌝ }
-    ensures { λ r. ⌜ r ≡ extracted quarters (over n k beside) ⌝ }
+    ensures { λ r. ⌜ r ≡ held (extracted quarters (over n k beside)) ⌝ }
 {
-    quarter(k as i16 * quarters as i16 * n[1][1] - quarters as i16 * beside)
+    held_quarter(k as i16 * quarters as i16 * n[1][1] - quarters as i16 * beside)
 }
 
 // The filters of modes 2, 3, C, D, E and F, worked out in 16 bits.
@@ -112,7 +111,7 @@ pub fn mode_2(quarters: u8, n: [[i32; 3]; 3]) -> i32
     ensures { λ r. ⌜ r ≡ mode2 quarters n ⌝ }
 {
     let m = narrow(n);
-    hold_16(enhance(quarters, m, 2, sides(m))) as i32
+    enhance(quarters, m, 2, sides(m)) as i32
 }
 
 pub fn mode_3(quarters: u8, n: [[i32; 3]; 3]) -> i32
@@ -120,7 +119,7 @@ pub fn mode_3(quarters: u8, n: [[i32; 3]; 3]) -> i32
     ensures { λ r. ⌜ r ≡ mode3 quarters n ⌝ }
 {
     let m = narrow(n);
-    hold_16(extract(quarters, m, 2, sides(m))) as i32
+    extract(quarters, m, 2, sides(m)) as i32
 }
 
 pub fn mode_c(quarters: u8, n: [[i32; 3]; 3]) -> i32
@@ -128,7 +127,7 @@ pub fn mode_c(quarters: u8, n: [[i32; 3]; 3]) -> i32
     ensures { λ r. ⌜ r ≡ modeC quarters n ⌝ }
 {
     let m = narrow(n);
-    hold_16(enhance(quarters, m, 2, ends(m))) as i32
+    enhance(quarters, m, 2, ends(m)) as i32
 }
 
 pub fn mode_d(quarters: u8, n: [[i32; 3]; 3]) -> i32
@@ -136,7 +135,7 @@ pub fn mode_d(quarters: u8, n: [[i32; 3]; 3]) -> i32
     ensures { λ r. ⌜ r ≡ modeD quarters n ⌝ }
 {
     let m = narrow(n);
-    hold_16(extract(quarters, m, 2, ends(m))) as i32
+    extract(quarters, m, 2, ends(m)) as i32
 }
 
 pub fn mode_e(quarters: u8, n: [[i32; 3]; 3]) -> i32
@@ -144,7 +143,7 @@ pub fn mode_e(quarters: u8, n: [[i32; 3]; 3]) -> i32
     ensures { λ r. ⌜ r ≡ modeE quarters n ⌝ }
 {
     let m = narrow(n);
-    hold_16(enhance(quarters, m, 4, four(m))) as i32
+    enhance(quarters, m, 4, four(m)) as i32
 }
 
 pub fn mode_f(quarters: u8, n: [[i32; 3]; 3]) -> i32
@@ -152,5 +151,5 @@ pub fn mode_f(quarters: u8, n: [[i32; 3]; 3]) -> i32
     ensures { λ r. ⌜ r ≡ modeF quarters n ⌝ }
 {
     let m = narrow(n);
-    hold_16(extract(quarters, m, 4, four(m))) as i32
+    extract(quarters, m, 4, four(m)) as i32
 }

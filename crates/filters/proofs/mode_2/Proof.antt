@@ -17,10 +17,9 @@ enhance-requires c κs =
 returns : tie.Need-returns
 unfolding mode2
 returns c =
-    let e = c .before in
-    let d = e .before in
+    let d = c .before in
     let a = d .before .before .args in
-    filtered (enhanced (a .quarters)) 2 sidesOf acrossOf across-over (a .n) (d .before .narrow .ensures) (e .enhance .ok) (d .sides .ok) (c .hold-16 .ensures) (e .enhance .ensures) (d .sides .ensures)
+    filtered (enhanced (a .quarters)) 2 sidesOf acrossOf across-over (a .n) (d .before .narrow .ensures) (d .sides .ok) (c .enhance .ensures) (d .sides .ensures)
 
 pub mode-2-spec : {M : Type 1} → statement M
 mode-2-spec =
@@ -29,6 +28,5 @@ mode-2-spec =
     (λ c κs. search needs)
     (λ c κs. nine-small (c .before .args .n) (c .narrow .ensures) (c .before .pre .1))
     enhance-requires
-    (λ c κs. search needs)
-    (λ c. widened _ (c .hold-16 .ensures))
+    (λ c. widened _ (c .enhance .ensures))
     returns)

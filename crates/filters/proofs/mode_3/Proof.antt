@@ -17,10 +17,9 @@ extract-requires c κs =
 returns : tie.Need-returns
 unfolding mode3
 returns c =
-    let e = c .before in
-    let d = e .before in
+    let d = c .before in
     let a = d .before .before .args in
-    filtered (λ m. extracted (a .quarters)) 2 sidesOf acrossOf across-over (a .n) (d .before .narrow .ensures) (e .extract .ok) (d .sides .ok) (c .hold-16 .ensures) (e .extract .ensures) (d .sides .ensures)
+    filtered (λ m. extracted (a .quarters)) 2 sidesOf acrossOf across-over (a .n) (d .before .narrow .ensures) (d .sides .ok) (c .extract .ensures) (d .sides .ensures)
 
 pub mode-3-spec : {M : Type 1} → statement M
 mode-3-spec =
@@ -29,6 +28,5 @@ mode-3-spec =
     (λ c κs. search needs)
     (λ c κs. nine-small (c .before .args .n) (c .narrow .ensures) (c .before .pre .1))
     extract-requires
-    (λ c κs. search needs)
-    (λ c. widened _ (c .hold-16 .ensures))
+    (λ c. widened _ (c .extract .ensures))
     returns)

@@ -17,10 +17,9 @@ enhance-requires c κs =
 returns : tie.Need-returns
 unfolding modeC
 returns c =
-    let e = c .before in
-    let d = e .before in
+    let d = c .before in
     let a = d .before .before .args in
-    filtered (enhanced (a .quarters)) 2 endsOf uprightOf upright-over (a .n) (d .before .narrow .ensures) (e .enhance .ok) (d .ends .ok) (c .hold-16 .ensures) (e .enhance .ensures) (d .ends .ensures)
+    filtered (enhanced (a .quarters)) 2 endsOf uprightOf upright-over (a .n) (d .before .narrow .ensures) (d .ends .ok) (c .enhance .ensures) (d .ends .ensures)
 
 pub mode-c-spec : {M : Type 1} → statement M
 mode-c-spec =
@@ -29,6 +28,5 @@ mode-c-spec =
     (λ c κs. search needs)
     (λ c κs. nine-small (c .before .args .n) (c .narrow .ensures) (c .before .pre .1))
     enhance-requires
-    (λ c κs. search needs)
-    (λ c. widened _ (c .hold-16 .ensures))
+    (λ c. widened _ (c .enhance .ensures))
     returns)

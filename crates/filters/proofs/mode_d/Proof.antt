@@ -17,10 +17,9 @@ extract-requires c κs =
 returns : tie.Need-returns
 unfolding modeD
 returns c =
-    let e = c .before in
-    let d = e .before in
+    let d = c .before in
     let a = d .before .before .args in
-    filtered (λ m. extracted (a .quarters)) 2 endsOf uprightOf upright-over (a .n) (d .before .narrow .ensures) (e .extract .ok) (d .ends .ok) (c .hold-16 .ensures) (e .extract .ensures) (d .ends .ensures)
+    filtered (λ m. extracted (a .quarters)) 2 endsOf uprightOf upright-over (a .n) (d .before .narrow .ensures) (d .ends .ok) (c .extract .ensures) (d .ends .ensures)
 
 pub mode-d-spec : {M : Type 1} → statement M
 mode-d-spec =
@@ -29,6 +28,5 @@ mode-d-spec =
     (λ c κs. search needs)
     (λ c κs. nine-small (c .before .args .n) (c .narrow .ensures) (c .before .pre .1))
     extract-requires
-    (λ c κs. search needs)
-    (λ c. widened _ (c .hold-16 .ensures))
+    (λ c. widened _ (c .extract .ensures))
     returns)

@@ -17,10 +17,9 @@ extract-requires c κs =
 returns : tie.Need-returns
 unfolding modeF
 returns c =
-    let e = c .before in
-    let d = e .before in
+    let d = c .before in
     let a = d .before .before .args in
-    filtered (λ m. extracted (a .quarters)) 4 fourOf aroundOf around-over (a .n) (d .before .narrow .ensures) (e .extract .ok) (d .four .ok) (c .hold-16 .ensures) (e .extract .ensures) (d .four .ensures)
+    filtered (λ m. extracted (a .quarters)) 4 fourOf aroundOf around-over (a .n) (d .before .narrow .ensures) (d .four .ok) (c .extract .ensures) (d .four .ensures)
 
 pub mode-f-spec : {M : Type 1} → statement M
 mode-f-spec =
@@ -29,6 +28,5 @@ mode-f-spec =
     (λ c κs. search needs)
     (λ c κs. nine-small (c .before .args .n) (c .narrow .ensures) (c .before .pre .1))
     extract-requires
-    (λ c κs. search needs)
-    (λ c. widened _ (c .hold-16 .ensures))
+    (λ c. widened _ (c .extract .ensures))
     returns)
