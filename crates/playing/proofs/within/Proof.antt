@@ -1,9 +1,9 @@
--- `audit::within` meets its contract. Assumes nothing.
+-- `playing::within` meets its contract. Assumes nothing.
 use lib.Seq.{length-take-le}
 use native.Mathlib.Omega.{arith}
 use mathlib.Core.Path.{sym}
-use Rattle.audit.proofs.within.Statement.{statement}
-use Rattle.audit.proofs.within.Tie as tie
+use Rattle.playing.proofs.within.Statement.{statement}
+use Rattle.playing.proofs.within.Tie as tie
 
 returns : tie.Need-returns
 returns c = (omega arith, sym (length-take-le (c .before .args .n) (c .before .args .buf .now) (omega arith)))

@@ -1,11 +1,11 @@
--- `audit::play` is safe and ends: what is left of the piece falls. Assumes nothing.
+-- `playing::play` is safe and ends: what is left of the piece falls. Assumes nothing.
 use borrow.Author.Needs.{needs}
 use lib.ListN.{length}
 use native.Mathlib.Omega.{arith}
 use Prim.Native.Nat.{_≤_, _-_}
 use mathlib.Core.Path.{_≡_}
-use Rattle.audit.proofs.play.Statement.{statement}
-use Rattle.audit.proofs.play.Tie as tie
+use Rattle.playing.proofs.play.Statement.{statement}
+use Rattle.playing.proofs.play.Tie as tie
 
 abbrev Inv-loop : tie.InvT-loop
 Inv-loop book₀ line₀ state₀ rom ram₀ store₀ image₀ piece out₀ at₀ book line state ram store image out at = (at ≤ length piece) × (length piece ≤ 65536) × (length book ≡ length book₀) × (length line ≡ length line₀) × (length state ≡ length state₀) × (length ram ≡ length ram₀) × (length store ≡ length store₀) × (length image ≡ length image₀) × (length out ≡ length out₀)
