@@ -24,7 +24,7 @@ fn put_pixels(ram: &[u8], pixels: &mut [u8])
     requires { ⌜ (8192 ≤ length (now ram)) × (length (now pixels) ≡ 14336) ⌝ }
     ensures { λ _. ⌜ now (pixels .exit) ≡ listed (greyAt (now (ram .entry))) 14336 ⌝ }
 {
-    put_tones(ram, 85, 170, true, pixels);
+    put_tones(ram, 85, true, pixels);
 }
 
 // The header's bytes.

@@ -1,13 +1,11 @@
 -- Aside: devices of contracts between functions. Nothing here need be believed: every use of it is tied by a proof to the definitions beside it.
--- Each pixel as a sum of what its two bits add, or the negative of it. Assumes nothing.
+-- Each pixel as a sum of what its two bits add, or the negative of it; eight pixels as one number. Assumes nothing.
+use mathlib.Core.Path.{_≡_}
 use mathlib.Core.Bool.{Bool}
 use mathlib.Core.List.{List}
-use Prim.Native.Nat.{ℕ, _+_, _-_, _*_, _/_, _%_, _^_}
-use lib.Bits.{bitAnd}
-use lib.Dec.{eqb}
-use lib.ListN.{getD}
+use Prim.Native.Nat.{ℕ, _+_, _-_, _*_, _/_, _%_, _^_, _<_, _≤_}
+use lib.ListN.{length, getD, set}
 use Rattle.laws.specs.Bits.{bitOf}
-use Rattle.laws.specs.Pick.{pick}
 use Rattle.lighting.specs.Light.{turned}
 use Rattle.tiles.specs.Tiles.{place}
 
@@ -15,13 +13,44 @@ use Rattle.tiles.specs.Tiles.{place}
 abbrev pub weightOf : ℕ → ℕ
 weightOf x = 2 ^ (7 - x % 8)
 
--- the byte of column x, of sixteen that stand 16 apart
-abbrev pub spreadOf : List ℕ → ℕ → ℕ → ℕ
-spreadOf ram at x = getD ram (at + 16 * (x / 8)) 0
+-- eight bytes as one number, the first the lowest
+unfoldable pub eightOf : (ℕ → ℕ) → ℕ
+eightOf f = f 0 + 256 * (f 1 + 256 * (f 2 + 256 * (f 3 + 256 * (f 4 + 256 * (f 5 + 256 * (f 6 + 256 * f 7))))))
 
--- what a bit adds
-abbrev pub toneOf : ℕ → ℕ → ℕ → ℕ
-toneOf byte weight added = pick (eqb (bitAnd byte weight) 0) 0 added
+-- a byte's bits, each as a byte, the highest bit the first
+unfoldable pub bitsOf : ℕ → ℕ
+bitsOf b = eightOf (λ k. bitOf b (7 - k))
+
+-- the table of them, as far as it is made, each bit `step`
+pub record Built (step n : ℕ) (t : List ℕ) : Type 0 where
+  pub whole : length t ≡ 256
+  pub same : (b : ℕ) → b < n → getD t b 0 ≡ step * bitsOf b
+
+-- a byte with one bit, and what that bit adds to the bytes below it
+pub record Weight (w bit : ℕ) : Type 0 where
+  pub some : 0 < w
+  pub byte : w ≤ 128
+  pub adds : (b : ℕ) → b < w → bitsOf (w + b) ≡ bitsOf b + bit
+
+-- a number's eight bytes put from a place on
+unfoldable pub putEight : List ℕ → ℕ → ℕ → List ℕ
+putEight out at v =
+    set
+    (set
+    (set
+    (set
+    (set
+    (set (set (set out at (v % 256)) (at + 1) (v / 0x100 % 256)) (at + 2) (v / 0x10000 % 256))
+    (at + 3)
+    (v / 0x1000000 % 256))
+    (at + 4)
+    (v / 0x100000000 % 256))
+    (at + 5)
+    (v / 0x10000000000 % 256))
+    (at + 6)
+    (v / 0x1000000000000 % 256))
+    (at + 7)
+    (v / 0x100000000000000 % 256)
 
 -- pixel k
 unfoldable pub toneNth : ℕ → ℕ → Bool → List ℕ → ℕ → ℕ

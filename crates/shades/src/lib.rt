@@ -5,17 +5,14 @@ use controller::judge::no_ram;
 use controller::judge::no_room;
 ghost use mathlib.Core.Path.{_≡_};
 ghost use mathlib.Core.Bool.{Bool};
-ghost use Prim.Native.Nat.{_+_, _<_, _≤_};
-ghost use lib.Bits.{bitAnd};
-ghost use lib.Dec.{eqb, ltb};
+ghost use Prim.Native.Nat.{_+_, _-_, _*_, _<_, _≤_};
 ghost use lib.ListN.{length};
 ghost use Rattle.laws.specs.Lists.{listed};
 ghost use Rattle.laws.specs.Pick.{pick};
-ghost use Rattle.lighting.specs.Light.{turned};
 ghost use Rattle.controller.specs.Outcome.{verdictNumber};
 ghost use Rattle.controller.specs.Table.{lowest};
 ghost use Rattle.shades.specs.Shades.{shadeNth, outputNumber, outputValue, exported, shadesRows, shadesMeans};
-ghost use Rattle.shades.specs.Aside.{weightOf, spreadOf, toneOf, toneNth};
+ghost use Rattle.shades.specs.Aside.{weightOf, Built, Weight, putEight, toneNth};
 
 // How many bytes were written, or why none.
 pub enum Output {
@@ -39,81 +36,75 @@ pub fn weights() -> [u8; 128]
     out
 }
 
-// The byte of a column of two tiles: that of the first tile in columns 0 to 7.
-fn half(x: usize, first: u8, second: u8) -> u8
-    ensures { λ r. ⌜ r ≡ pick (ltb x 8) first second ⌝ }
+// The bytes from w to twice w, where w has one bit: each adds what that bit is to a byte below w.
+fn double(t: &mut [u64; 256], step: u8, w: usize, bit: u64)
+    requires { ⌜ Built step w (now t) × (3 * step < 256) × Weight w bit ⌝ }
+    ensures { λ _. ⌜ Built step (2 * w) (now (t .exit)) ⌝ }
 {
-    if x < 8 {
-        return first;
-    }
-    second
-}
-
-// The low and the high bytes of a row of sixteen tiles from a place on, each at its eight columns. Two tiles at a time: their four bytes are one vector each.
-fn spread(ram: &[u8], at: usize, l: &mut [u8], h: &mut [u8])
-    requires { ⌜ (at + 241 < length (now ram)) × (at < 8192) ⌝ }
-    requires { ⌜ (length (now l) ≡ 128) × (length (now h) ≡ 128) ⌝ }
-    ensures { λ _. ⌜ (now (l .exit) ≡ listed (spreadOf (now (ram .entry)) at) 128) × (now (h .exit) ≡ listed (spreadOf (now (ram .entry)) (at + 1)) 128) ⌝ }
-{
-    for t in 0..8 {
-        let p = ram[at + 32 * t];
-        let q = ram[at + 32 * t + 1];
-        let r = ram[at + 32 * t + 16];
-        let s = ram[at + 32 * t + 17];
-        for x in 0..16 {
-            l[16 * t + x] = half(x, p, r);
-            h[16 * t + x] = half(x, q, s);
-        }
+    let add = step as u64 * bit;
+    for b in 0..w {
+        t[w + b] = t[b] + add;
     }
 }
 
-// What a bit of a byte makes, by whether it is clear or set.
-fn share(byte: u8, weight: u8, clear: u8, set: u8) -> u8
-    ensures { λ r. ⌜ (r ≡ pick (eqb (bitAnd byte weight) 0) clear set) × (r ≤ clear + set) ⌝ }
+// What eight pixels are for each byte, as one number: `step` for each bit that is set, the first pixel in the lowest byte.
+fn fill(t: &mut [u64; 256], step: u8)
+    requires { ⌜ (length (now t) ≡ 256) × (3 * step < 256) ⌝ }
+    ensures { λ _. ⌜ Built step 256 (now (t .exit)) ⌝ }
 {
-    if byte & weight == 0 {
-        return clear;
-    }
-    set
+    t[0] = 0;
+    double(t, step, 1, 0x100000000000000);
+    double(t, step, 2, 0x1000000000000);
+    double(t, step, 4, 0x10000000000);
+    double(t, step, 8, 0x100000000);
+    double(t, step, 16, 0x1000000);
+    double(t, step, 32, 0x10000);
+    double(t, step, 64, 0x100);
+    double(t, step, 128, 1);
 }
 
-// A pixel: what its two bits add where they are set, or the negative of it, which is what they add where they are clear.
-fn pixel(l: u8, h: u8, weight: u8, low: u8, high: u8, negative: bool) -> u8
-    requires { ⌜ low + high < 256 ⌝ }
-    ensures { λ r. ⌜ r ≡ turned negative (toneOf l weight low + toneOf h weight high) ⌝ }
+// A number's eight bytes from a place on, the lowest first: the compiler makes one store of them.
+fn put_eight(out: &mut [u8], at: usize, v: u64)
+    requires { ⌜ at + 8 ≤ length (now out) ⌝ }
+    ensures { λ _. ⌜ now (out .exit) ≡ putEight (now (out .entry)) at v ⌝ }
+{
+    out[at] = (v % 256) as u8;
+    out[at + 1] = (v / 0x100 % 256) as u8;
+    out[at + 2] = (v / 0x10000 % 256) as u8;
+    out[at + 3] = (v / 0x1000000 % 256) as u8;
+    out[at + 4] = (v / 0x100000000 % 256) as u8;
+    out[at + 5] = (v / 0x10000000000 % 256) as u8;
+    out[at + 6] = (v / 0x1000000000000 % 256) as u8;
+    out[at + 7] = (v / 0x100000000000000 % 256) as u8;
+}
+
+// Eight pixels, or the negative of them.
+fn turn(v: u64, negative: bool) -> u64
+    ensures { λ r. ⌜ r ≡ pick negative (0xFFFFFFFFFFFFFFFF - v) v ⌝ }
 {
     if negative {
-        let rest = 255 - low - high;
-        return rest + share(l, weight, low, 0) + share(h, weight, high, 0);
+        return 0xFFFFFFFFFFFFFFFF - v;
     }
-    share(l, weight, 0, low) + share(h, weight, 0, high)
+    v
 }
 
-// All pixels, row by row, with no branch on a pixel: `low` for its low bit and `high` for its high bit, or the negative of that.
-fn put_rows(ram: &[u8], weights: &[u8; 128], low: u8, high: u8, negative: bool, pixels: &mut [u8])
+// All pixels, row by row, eight at a time: `step` for the low bit and twice that for the high bit, or the negative of it. Shades by 1, greys by 85.
+pub fn put_tones(ram: &[u8], step: u8, negative: bool, pixels: &mut [u8])
     requires { ⌜ (8192 ≤ length (now ram)) × (length (now pixels) ≡ 14336) ⌝ }
-    requires { ⌜ (now weights ≡ listed weightOf 128) × (low + high < 256) ⌝ }
-    ensures { λ _. ⌜ now (pixels .exit) ≡ listed (toneNth low high negative (now (ram .entry))) 14336 ⌝ }
+    requires { ⌜ 3 * step < 256 ⌝ }
+    ensures { λ _. ⌜ now (pixels .exit) ≡ listed (toneNth step (2 * step) negative (now (ram .entry))) 14336 ⌝ }
 {
+    let mut t = [0u64; 256];
+    fill(&mut t, step);
     for y in 0..112 {
-        let at = tiles::PICTURE + tiles::pair_at(0, y);
-        let mut l = [0u8; 128];
-        let mut h = [0u8; 128];
-        spread(ram, at, &mut l, &mut h);
-        for x in 0..128 {
-            pixels[128 * y + x] = pixel(l[x], h[x], weights[x], low, high, negative);
+        for x in 0..16 {
+            let at = tiles::PICTURE + tiles::pair_at(x, y);
+            let l = ram[at] as usize;
+            let h = ram[at + 1] as usize;
+            let v = t[l] + 2 * t[h];
+            put_eight(pixels, 128 * y + 8 * x, turn(v, negative));
         }
     }
-}
-
-// All pixels, row by row, each as what its low bit and its high bit add, or the negative of it: shades by 1 and 2, greys by 85 and 170.
-pub fn put_tones(ram: &[u8], low: u8, high: u8, negative: bool, pixels: &mut [u8])
-    requires { ⌜ (8192 ≤ length (now ram)) × (length (now pixels) ≡ 14336) ⌝ }
-    requires { ⌜ low + high < 256 ⌝ }
-    ensures { λ _. ⌜ now (pixels .exit) ≡ listed (toneNth low high negative (now (ram .entry))) 14336 ⌝ }
-{
-    let columns = weights();
-    put_rows(ram, &columns, low, high, negative, pixels);
 }
 
 // All pixels as shades.
@@ -121,7 +112,7 @@ fn put_shades(ram: &[u8], pixels: &mut [u8])
     requires { ⌜ (8192 ≤ length (now ram)) × (length (now pixels) ≡ 14336) ⌝ }
     ensures { λ _. ⌜ now (pixels .exit) ≡ listed (shadeNth (now (ram .entry))) 14336 ⌝ }
 {
-    put_tones(ram, 1, 2, false, pixels);
+    put_tones(ram, 1, false, pixels);
 }
 
 // What a reading of shades was lent, judged.
