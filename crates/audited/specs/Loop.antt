@@ -40,7 +40,8 @@ call rom outs p piece = pieceAudited rom (p .world) (p .book) (p .line) (outs (p
 unfoldable pub pieceRead : ℕ → List ℕ → (ℕ → List ℕ) → Auditing → List ℕ → Auditing
 pieceRead zero rom outs p piece = p
 pieceRead (suc most) rom outs p [] = p
-pieceRead (suc most) rom outs p (b ∷ rest) = pieceRead most rom outs (called p (call rom outs p (b ∷ rest))) (drop (call rom outs p (b ∷ rest) .used) (b ∷ rest))
+pieceRead (suc most) rom outs p (b ∷ rest) = pieceRead most rom outs (called p (call rom outs p (b ∷ rest)))
+    (drop (call rom outs p (b ∷ rest) .used) (b ∷ rest))
 
 -- piece after piece, and then the end of the recording
 unfoldable pub looped : List ℕ → (ℕ → List ℕ) → Auditing → List (List ℕ) → Auditing

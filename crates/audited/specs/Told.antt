@@ -47,7 +47,8 @@ abbrev pub countsSince : {rom : List ℕ} {w : World} {lines : List (List ℕ)} 
 countsSince {rom} s more = counted (found (sessionBefore s)) (callsOf rom (sessionBefore s) (s .line ∷ (s .since ++ more)))
 
 -- two such starts of the same lines, with whatever serials, are one
-pub record OneBegun {rom : List ℕ} {w : World} {lines : List (List ℕ)} {serial n : ℕ} (s : Begun rom w lines serial) (other : Begun rom w lines n) : Type 0 where
+pub record OneBegun {rom : List ℕ} {w : World} {lines : List (List ℕ)} {serial n : ℕ} (s : Begun rom w lines serial)
+    (other : Begun rom w lines n) : Type 0 where
   pub before : other .before ≡ s .before
   pub line : other .line ≡ s .line
   pub since : other .since ≡ s .since
@@ -63,7 +64,8 @@ lastRow rom w n r (line ∷ rest) =
     lastRow rom (stepOf rom w line .world) (n + 1) (pick (isRow (frameOf line) && accepted rom w line) (n + 1) r) rest
 
 -- what an event with this serial and these cycles tells, after lines and with these more: it has such a start, and one; the image whose checksum
--- the start said is the one lent then, and the row that it said, of lines that 64 bits can number, the last line that lent one; the registers that it said are those in force then, with the new register 0; and the cycles are the counts
+-- the start said is the one lent then, and the row that it said, of lines that 64 bits can number, the last line that lent one; the registers that it
+-- said are those in force then, with the new register 0; and the cycles are the counts
 -- since, added up
 pub record Started (rom : List ℕ) (w : World) (lines more : List (List ℕ)) (serial cycles : ℕ) : Type 0 where
   pub begun : Begun rom w lines serial

@@ -32,7 +32,8 @@ begun c v = captures c (set (c .registers) 0 v) true (set (c .registers) 0 v) 0 
 unfoldable pub moved : Controller → ℕ → Controller
 moved c e = captures c (c .registers) (c .held) (c .taken) e (c .started) (c .ended)
 
--- At its total, register 0 bit 0 clears (bits 1 and 2 stay), the capture is no longer held, and elapsed and taken registers become 0; one more has reached its end
+-- At its total, register 0 bit 0 clears (bits 1 and 2 stay), the capture is no longer held, and elapsed and taken registers become 0; one more has
+-- reached its end
 unfoldable pub ended : Controller → Controller
 ended c = captures c (set (c .registers) 0 (getD (c .registers) 0 0 / 2 * 2)) false noRegisters 0 (c .started) (oneMore (c .ended))
 

@@ -17,7 +17,8 @@ pub record Kept : Type 0 where
   pub ram : List ℕ
   pub store : List ℕ
 
--- a call of an exported function, with what else it is lent or given; of the others only that which restores a save writes to one of the three, and it begins anew
+-- a call of an exported function, with what else it is lent or given; of the others only that which restores a save writes to one of the three, and
+-- it begins anew
 pub data Export : Type 0 where
   reset : Export
   read : (rom : List ℕ) (address : ℕ) → Export

@@ -19,7 +19,8 @@ use Rattle.controller.specs.declared.ReadDone.{ReadDone}
 use Rattle.controller.specs.declared.WriteDone.{WriteDone}
 use Rattle.controller.specs.declared.TickDone.{TickDone}
 
--- The numbers of the table: 1 the state record can't exist, 2 ROM length, 3 RAM length, 4 image or frame store, 5 address, 6 a script line, 7 a buffer lent is too short, 8 a file, 9 a choice, 10 a capture is held, 11 no capture is held, 12 a script over 32,768 bytes
+-- The numbers of the table: 1 the state record can't exist, 2 ROM length, 3 RAM length, 4 image or frame store, 5 address, 6 a script line, 7 a
+-- buffer lent is too short, 8 a file, 9 a choice, 10 a capture is held, 11 no capture is held, 12 a script over 32,768 bytes
 abbrev pub numberOf : Refusal → ℕ
 numberOf State = 1
 numberOf Rom = 2

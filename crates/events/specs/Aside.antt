@@ -60,7 +60,8 @@ placeBy select size a = select % 16 % (size / 8192) * 8192 + a % 8192
 -- the kind of an event: of those that are seen the first
 abbrev pub kindBy : Bool → Bool → Bool → Bool → Bool → Bool → Kind
 kindBy starts ends drops lands stops resumes =
-    pick starts kinds.Start (pick ends kinds.End (pick drops kinds.Drop (pick lands kinds.Land (pick stops kinds.Stop (pick resumes kinds.Resume kinds.Nothing)))))
+    pick starts kinds.Start (pick ends kinds.End (pick drops kinds.Drop
+    (pick lands kinds.Land (pick stops kinds.Stop (pick resumes kinds.Resume kinds.Nothing)))))
 
 abbrev pub kindOf : Bool → Bool → Bool → Bool → Bool → Bool → Kind
 kindOf held runs still on reset lands =

@@ -15,7 +15,8 @@ ghost use Prim.Native.Nat.{_≤_, min};
 ghost use lib.ListN.{length, take};
 ghost use Rattle.controller.specs.Outcome.{verdictNumber};
 ghost use Rattle.controller.specs.Table.{lowest};
-ghost use Rattle.ledger.specs.Audits.{auditing, fits, auditRows, lent, auditBytes, endBytes, noting, room, sameRam, changedRows, changedBytes, summaryRows, summaryBytes};
+ghost use Rattle.ledger.specs.Audits.{auditing, fits, auditRows, lent, auditBytes, endBytes, noting, room, sameRam, changedRows, changedBytes};
+ghost use Rattle.ledger.specs.Audits.{summaryRows, summaryBytes};
 
 // A book of 13 numbers, and room for an event.
 fn has_room(book: &[u64], out: &[u8]) -> bool
@@ -107,7 +108,8 @@ pub extern "C" fn gulxinett_audit(
     piece: &[u8],
     out: &mut [u8],
 ) -> u64
-    ensures { λ r. ⌜ auditing r (now (state .exit)) (now (ram .exit)) (now (store .exit)) (now (image .exit)) (now (book .exit)) (now (line .exit)) (now (out .exit))
+    ensures { λ r. ⌜ auditing r (now (state .exit)) (now (ram .exit)) (now (store .exit)) (now (image .exit))
+        (now (book .exit)) (now (line .exit)) (now (out .exit))
         ≡ auditBytes (now (state .entry)) (now (rom .entry)) (now (ram .entry)) (now (store .entry)) (now (image .entry)) (now (book .entry))
         (now (line .entry)) (now (piece .entry)) (now (out .entry)) ⌝ }
 {
@@ -132,7 +134,8 @@ pub extern "C" fn gulxinett_audit_end(
     image: &mut [u8],
     out: &mut [u8],
 ) -> u64
-    ensures { λ r. ⌜ auditing r (now (state .exit)) (now (ram .exit)) (now (store .exit)) (now (image .exit)) (now (book .exit)) (now (line .entry)) (now (out .exit))
+    ensures { λ r. ⌜ auditing r (now (state .exit)) (now (ram .exit)) (now (store .exit)) (now (image .exit))
+        (now (book .exit)) (now (line .entry)) (now (out .exit))
         ≡ endBytes (now (state .entry)) (now (rom .entry)) (now (ram .entry)) (now (store .entry)) (now (image .entry)) (now (book .entry))
         (now (line .entry)) (now (out .entry)) ⌝ }
 {

@@ -75,8 +75,8 @@ fn has_begun(book: &[u64]) -> bool {
     book[1] != 0
 }
 
-// Plays whole lines of a piece, as many as the buffer has room for the events of, and writes these; where a line has begun before, or none ends here, one line or
-// what there is of it.
+// Plays whole lines of a piece, as many as the buffer has room for the events of, and writes these; where a line has begun before, or none ends here,
+// one line or what there is of it.
 fn play_some(
     book: &mut [u64],
     line: &mut [u8],

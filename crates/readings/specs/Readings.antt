@@ -28,7 +28,8 @@ notHeld c = row NotHeld (not (c .held))
 unfoldable pub readingRows : Controller → List ℕ → List ℕ → List Row
 readingRows c store out = noState c ∷ noFrame (length store) ∷ noRoom 14351 (length out) ∷ notHeld c ∷ []
 
--- worked out from frame store, whose bytes are read as lit values, and taken registers of a held capture: exactly 14,351 bytes; bytes beyond stay. Refused, nothing is written
+-- worked out from frame store, whose bytes are read as lit values, and taken registers of a held capture: exactly 14,351 bytes; bytes beyond stay.
+-- Refused, nothing is written
 unfoldable pub readingsMean : Controller → List ℕ → List ℕ → Exported
 readingsMean c store out =
     judged (lowest (readingRows c store out)) (λ n. exported n 0 out)

@@ -25,7 +25,8 @@ stepped answer s ram store image out =
 -- a step's answer, with its LF, is put at the start of the buffer, and its length is the value; bytes beyond stay
 abbrev pub asStepped : Step → List ℕ → Stepped
 asStepped s out =
-    stepped (packed 0 (length (s .text))) (encoded (s .world .state)) (s .world .ram) (s .world .store) (s .world .image) (s .text ++ drop (length (s .text)) out)
+    stepped (packed 0 (length (s .text))) (encoded (s .world .state)) (s .world .ram) (s .world .store) (s .world .image)
+    (s .text ++ drop (length (s .text)) out)
 
 -- 1 for bytes that are no record, then 7 for a buffer of fewer than 11 bytes
 unfoldable pub stepRows : List ℕ → List ℕ → List Row

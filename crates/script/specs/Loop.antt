@@ -29,7 +29,8 @@ called p f = record { world = f .world; reader = f .reader; text = p .text ++ ta
 unfoldable pub pieceRead : ℕ → List ℕ → (ℕ → List ℕ) → Playing → List ℕ → Playing
 pieceRead zero rom outs p piece = p
 pieceRead (suc most) rom outs p [] = p
-pieceRead (suc most) rom outs p (b ∷ rest) = pieceRead most rom outs (called p (call rom outs p (b ∷ rest))) (drop (call rom outs p (b ∷ rest) .used) (b ∷ rest))
+pieceRead (suc most) rom outs p (b ∷ rest) = pieceRead most rom outs (called p (call rom outs p (b ∷ rest)))
+    (drop (call rom outs p (b ∷ rest) .used) (b ∷ rest))
 
 -- piece after piece, and then the end of the text
 unfoldable pub looped : List ℕ → (ℕ → List ℕ) → Playing → List (List ℕ) → Step

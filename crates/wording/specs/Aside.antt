@@ -9,7 +9,8 @@ use Rattle.laws.specs.Pick.{pick}
 use Rattle.lines.specs.Hex.{hexText, placed}
 use Rattle.recording.specs.Record.{rowHex}
 use Rattle.wording.specs.Words.{decimal}
-use Rattle.wording.specs.Keys.{imageWord, rowWord, registersWord, cyclesWord, endWord, plateWord, endedWord, wholeWord, touchedWord, countDropped, countHeld}
+use Rattle.wording.specs.Keys.{imageWord, rowWord, registersWord, cyclesWord, endWord, plateWord, endedWord, wholeWord, touchedWord}
+use Rattle.wording.specs.Keys.{countDropped, countHeld}
 use Rattle.wording.specs.Events.{lineEnd, opening}
 
 -- a buffer with words put at a place, of so many bytes at most; and the place after them
@@ -43,4 +44,5 @@ endBegun n serial cycles plate = opening n ++ (endWord ++ (decimal serial ++ (cy
 -- a summary's captures from those that ended on
 abbrev pub endsText : ℕ → ℕ → ℕ → ℕ → ℕ → List ℕ
 endsText ended whole touched dropped held =
-    endedWord ++ (decimal ended ++ (wholeWord ++ (decimal whole ++ (touchedWord ++ (decimal touched ++ (countDropped ++ (decimal dropped ++ (countHeld ++ (decimal held ++ lineEnd)))))))))
+    endedWord ++ (decimal ended ++ (wholeWord ++ (decimal whole ++ (touchedWord ++ (decimal touched ++ (countDropped
+    ++ (decimal dropped ++ (countHeld ++ (decimal held ++ lineEnd)))))))))

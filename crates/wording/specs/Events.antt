@@ -6,7 +6,10 @@ use Rattle.laws.specs.Pick.{pick}
 use Rattle.lines.specs.Hex.{hexText}
 use Rattle.recording.specs.Record.{rowHex}
 use Rattle.wording.specs.Words.{decimal}
-use Rattle.wording.specs.Keys.{lineWord, startWord, imageWord, rowWord, registersWord, stopWord, resumeWord, cyclesWord, writeWord, insideWord, outsideWord, offsetWord, byteWord, endWord, plateWord, wholeEnd, touchedEnd, firstWord, lastWord, droppedWord, heldWord, changedWord, fromWord, toWord, unchangedWord, summaryWord, refusedWord, capturesWord, endedWord, wholeWord, touchedWord, countDropped, countHeld}
+use Rattle.wording.specs.Keys.{lineWord, startWord, imageWord, rowWord, registersWord, stopWord, resumeWord, cyclesWord, writeWord, insideWord}
+use Rattle.wording.specs.Keys.{outsideWord, offsetWord, byteWord, endWord, plateWord, wholeEnd, touchedEnd, firstWord, lastWord, droppedWord}
+use Rattle.wording.specs.Keys.{heldWord, changedWord, fromWord, toWord, unchangedWord, summaryWord, refusedWord, capturesWord, endedWord}
+use Rattle.wording.specs.Keys.{wholeWord, touchedWord, countDropped, countHeld}
 
 -- LF
 abbrev pub lineEnd : List ℕ
@@ -19,7 +22,8 @@ opening n = lineWord ++ decimal n
 -- a start: its serial, the checksum of the image, the line of the last row lent, and the registers taken
 unfoldable pub startText : ℕ → ℕ → ℕ → ℕ → List ℕ → List ℕ
 startText n serial image row registers =
-    opening n ++ (startWord ++ (decimal serial ++ (imageWord ++ (hexText 8 image ++ (rowWord ++ (decimal row ++ (registersWord ++ (rowHex registers ++ lineEnd))))))))
+    opening n ++ (startWord ++ (decimal serial ++ (imageWord ++ (hexText 8 image ++ (rowWord ++ (decimal row ++ (registersWord
+    ++ (rowHex registers ++ lineEnd))))))))
 
 -- an event that has a serial and the cycles run so far
 abbrev pub markText : List ℕ → ℕ → ℕ → ℕ → List ℕ
@@ -41,7 +45,8 @@ heldText n serial cycles = markText heldWord n serial cycles
 -- a bus write that landed: inside the picture area or outside, the bank, the offset in it, and the byte
 unfoldable pub landedText : ℕ → ℕ → Bool → ℕ → ℕ → List ℕ
 landedText n serial inside at byte =
-    opening n ++ (writeWord ++ (decimal serial ++ (pick inside insideWord outsideWord ++ (hexText 1 (at / 8192) ++ (offsetWord ++ (hexText 4 (at % 8192) ++ (byteWord ++ (hexText 2 byte ++ lineEnd))))))))
+    opening n ++ (writeWord ++ (decimal serial ++ (pick inside insideWord outsideWord ++ (hexText 1 (at / 8192) ++ (offsetWord
+    ++ (hexText 4 (at % 8192) ++ (byteWord ++ (hexText 2 byte ++ lineEnd))))))))
 
 -- an end, with the checksum of the plate, up to its verdict
 abbrev pub endText : ℕ → ℕ → ℕ → ℕ → List ℕ → List ℕ
@@ -70,4 +75,5 @@ unchangedText n = opening n ++ (unchangedWord ++ lineEnd)
 unfoldable pub summaryText : ℕ → ℕ → ℕ → ℕ → ℕ → ℕ → ℕ → ℕ → ℕ → List ℕ
 summaryText n malformed refused captures ended whole touched dropped held =
     opening n ++ (summaryWord ++ (decimal malformed ++ (refusedWord ++ (decimal refused ++ (capturesWord ++ (decimal captures ++ (endedWord ++ (decimal ended
-    ++ (wholeWord ++ (decimal whole ++ (touchedWord ++ (decimal touched ++ (countDropped ++ (decimal dropped ++ (countHeld ++ (decimal held ++ lineEnd))))))))))))))))
+    ++ (wholeWord ++ (decimal whole ++ (touchedWord ++ (decimal touched ++ (countDropped ++ (decimal dropped ++ (countHeld
+    ++ (decimal held ++ lineEnd))))))))))))))))
