@@ -9,8 +9,10 @@ use native.Mathlib.Omega.{arith}
 use lib.Dec.{eqb, ltb, leb}
 use lib.ListN.{length, getD, take, drop, take-append-drop, length-append, length-drop}
 use lib.Seq.{drop-cons, take-suc, getD-drop, length-take-le, take-append-add}
-use borrow.Author.Tests.{ne-eqb, ltb-true, leb-true}
+use borrow.Author.Tests.{eq-eqb, ne-eqb, eqb-true, lt-ltb, le-leb, ltb-true, leb-true}
 use Rattle.laws.proofs.Bools.{both-left, both-right}
+use Rattle.laws.proofs.Order.{split}
+use Rattle.laws.proofs.Pick.{never}
 use Rattle.lines.specs.Hex.{placed}
 use Rattle.lines.proofs.Placed.{placed-none, placed-next}
 use Rattle.session.specs.Session.{World}
@@ -20,13 +22,21 @@ use Rattle.auditing.specs.Line.{Audited, auditOf, auditAll}
 use Rattle.auditing.specs.Aside.{Audits}
 use Rattle.audited.proofs.Sessions.{world-append, book-append}
 use Rattle.audited.proofs.Loop.{noEnd, ended-line}
-use Rattle.sweeping.specs.Aside.{sweptBy, Sweeps, Strides}
+use Rattle.sweeping.specs.Aside.{sweptBy, begins, Sweeps, Stops, Strides}
 
 -- a line ends, and there is room for its event
 pub went-on : (end n room : ℕ) (r : Bool) → r ≡ (ltb end n && leb 256 room) → r ≡ true → (end < n) × (256 ≤ room)
 went-on end n room r e t =
     let h = sym e ∙ t in
     (ltb-true end n (both-left (ltb end n) (leb 256 room) h), leb-true 256 room (both-right (ltb end n) (leb 256 room) h))
+
+-- no line ends any more, or there may be no room for its event
+pub stopped : (piece out : List ℕ) (i end at : ℕ) → Ends piece i end → (r : Bool) → r ≡ (ltb end (length piece) && leb 256 (length out - at)) → r ≡ false
+    → Stops piece out i at
+stopped piece out i end at e r q f k a l lf =
+    split (length out) (at + 256) (λ full. full)
+    (λ room. split k end (λ before. absurd (e .none k a before lf))
+    (λ after. absurd (never (simp (lt-ltb end (length piece) (omega arith), le-leb 256 (length out - at) (omega arith))) (sym q ∙ f))))
 
 -- what lines say after lines
 pub text-append : (rom : List ℕ) (xs : List (List ℕ)) (w : World) (b : List ℕ) (ys : List (List ℕ))
@@ -48,6 +58,8 @@ sweeps-none rom w b piece out = record {
   text = sym (placed-none out 0);
   end = refl;
   room = omega arith;
+  whole = refl;
+  roomy = λ k l _. absurd (omega arith);
 }
 
 -- bytes from a place on, up to the first LF
@@ -134,6 +146,16 @@ module _ (rom : List ℕ) (w₀ : World) (b₀ piece out₀ : List ℕ) (w : Wor
         ∙ sym (text-append rom (linesOf (take i piece)) w₀ b₀ (line ∷ []))
         ∙ ap (λ (x : List (List ℕ)). auditAll rom w₀ b₀ x .text) (sym lines-now)
 
+    -- of the places in a line only its first begins one, and there was room
+    first-only : (k : ℕ) → i < k → k < end + 1 → begins piece k ≡ true → ⊥
+    first-only zero a h b = omega arith
+    first-only (suc k) a h b = e .none k (omega arith) (omega arith) (eqb-true (getD piece k 0) 0x0A b)
+
+    had-room : (k : ℕ) → k < end + 1 → begins piece k ≡ true → i ≤ k → at + 256 ≤ length out₀ → length (sweptBy rom w₀ b₀ (take k piece) .text) + 256 ≤ length out₀
+    had-room k h b a r =
+        split i k (λ later. absurd (first-only k later h b))
+        (λ here. let same : i ≡ k = omega arith in subst (λ j. length (sweptBy rom w₀ b₀ (take j piece) .text) + 256 ≤ length out₀) same (omega (arith, s .end)))
+
     -- a line more
     pub sweeps-line : (w′ : World) (b′ out′ : List ℕ) (at′ : ℕ) → Audits (auditOf rom w b (take (end - i) (drop i piece))) w′ out at b′ out′ at′ → at + 256 ≤ length out₀
         → Sweeps rom w₀ b₀ piece out₀ w′ b′ out′ (end + 1) at′
@@ -150,6 +172,10 @@ module _ (rom : List ℕ) (w₀ : World) (b₀ piece out₀ : List ℕ) (w : Wor
           ∙ ap (placed out₀ 0) text-now;
       end = a .end ∙ ap (λ (k : ℕ). k + length (here .text)) (s .end) ∙ sym (length-append before (here .text)) ∙ ap length text-now;
       room = omega (arith, a .few);
+      whole = subst (λ k. begins piece k ≡ true) (sym (add-one end)) (eq-eqb (getD piece end 0) 0x0A (e .found l));
+      roomy = λ k h b. split k i
+          (λ before. s .roomy k before b)
+          (λ after. had-room k h b after r);
     }
 
 module _ (rom piece : List ℕ) (w : World) (b out : List ℕ) (i at : ℕ) where

@@ -11,7 +11,7 @@ ghost use lib.Dec.{leb, ltb};
 ghost use lib.ListN.{length};
 ghost use Rattle.layout.specs.Layout.{isRecord, decoded};
 ghost use Rattle.session.specs.Session.{world};
-ghost use Rattle.sweeping.specs.Aside.{Sweeps};
+ghost use Rattle.sweeping.specs.Aside.{Sweeps, Stops, Settled};
 
 // The bytes of a piece that were played, and of events that were put into a buffer.
 pub struct Swept {
@@ -44,7 +44,7 @@ fn sweep(
     ensures { λ r. ⌜ Sweeps (now (rom .entry)) (world (decoded (now (state .entry))) (now (ram .entry)) (now (store .entry)) (now (image .entry)))
         (now (book .entry)) (now (piece .entry)) (now (out .entry))
         (world (decoded (now (state .exit))) (now (ram .exit)) (now (store .exit)) (now (image .exit))) (now (book .exit)) (now (out .exit)) (r .used)
-        (r .written) ⌝ }
+        (r .written) × Stops (now (piece .entry)) (now (out .entry)) (r .used) (r .written) × (isRecord (now (state .exit)) ≡ true) ⌝ }
 {
     let mut at = 0;
     let mut i = 0;
@@ -76,7 +76,8 @@ pub fn lines_audited(
     ensures { λ r. ⌜ Sweeps (now (rom .entry)) (world (decoded (now (state .entry))) (now (ram .entry)) (now (store .entry)) (now (image .entry)))
         (now (book .entry)) (now (piece .entry)) (now (out .entry))
         (world (decoded (now (state .exit))) (now (ram .exit)) (now (store .exit)) (now (image .exit))) (now (book .exit)) (now (out .exit)) (r .used)
-        (r .written) ⌝ }
+        (r .written)
+        × Settled (now (state .entry)) (now (book .entry)) (now (piece .entry)) (now (out .entry)) (now (state .exit)) (r .used) (r .written) ⌝ }
 {
     if book.len() != 13 {
         return Swept {

@@ -9,7 +9,7 @@ use Rattle.layout.specs.Layout.{isRecord, decoded}
 use Rattle.session.specs.Session.{world}
 use Rattle.short.specs.Aside.{Ends}
 use Rattle.sweeping.specs.Aside.{Sweeps}
-use Rattle.sweeping.proofs.Turns.{went-on, sweeps-none, sweeps-line}
+use Rattle.sweeping.proofs.Turns.{went-on, stopped, sweeps-none, sweeps-line}
 use Rattle.sweeping.proofs.sweep.Statement.{statement}
 use Rattle.sweeping.proofs.sweep.Tie as tie
 
@@ -100,7 +100,10 @@ same-length-6 : tie.Need-same-length-6 Inv-loop μ-loop
 same-length-6 c = c .before .before .loop .inv .5
 
 returns : tie.Need-returns Inv-loop μ-loop
-returns c = c .before .before .loop .inv .9
+returns c =
+    let l = c .before .before .loop in
+    let g = c .before .goes-on in
+    (l .inv .9, (λ k a h f. omega (arith, l .inv .5, stopped _ (l .out) (l .i) (l .end) (l .at) (l .inv .8) (g .result) (g .ensures) (c .if1 .left) k a h f)), l .inv .7)
 
 pub sweep-spec : {M : Type 1} → statement M
 sweep-spec =
