@@ -39,4 +39,4 @@ play-some-spec =
     (λ c. c .before .before .before .before .before .before .before .before .before .before .before .before .before .before .before .before .before .before .lines-audited .kept .1 .1 .1 .1 .0)
     (λ c. c .before .before .before .before .before .before .before .before .before .before .before .before .before .before .before .before .before .before .lines-audited .kept .1 .1 .1 .1 .1 .0)
     (λ c. c .before .before .before .before .before .before .before .before .before .before .before .before .before .before .before .before .before .before .lines-audited .kept .1 .1 .1 .1 .1 .1 .1 .0)
-    (λ c. (omega arith, c .before .before .before .before .before .before .before .before .before .before .before .before .before .before .before .before .before .before .lines-audited .ensures .inside)))
+    (λ c. (omega arith, c .before .before .before .before .before .before .before .before .before .before .before .before .before .before .before .before .before .before .lines-audited .ensures .0 .inside)))
