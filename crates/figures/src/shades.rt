@@ -18,7 +18,7 @@ fn shades(regs: &[u8; 54], first: u8, step: u8) -> [u8; 64] {
     let mut row = [0u8; 64];
     let mut v = first;
     for i in 0..64 {
-        row[i] = digit(sensor::shade(regs, 0, 0, v));
+        row[i] = digit(sensor::shade::shade(regs, 0, 0, v));
         v = std::num::wrapping_add_u8(v, step);
     }
     row

@@ -1,8 +1,8 @@
 // From light to shade, steps 4 and 5, a row at a time: the values of a row of the sensor, from a store of lit values. Step 4 values are kept as
 // bytes, 128 added to each; where the 1-D filter asks for the row below, a row's are worked out once and carried on to the next row.
 use lighting::Setting;
-use sensor::nine;
-use sensor::passing;
+use sensor::nine::nine;
+use sensor::row::passing;
 ghost use mathlib.Core.Path.{_≡_};
 ghost use Prim.Native.Nat.{_+_, _<_, _≤_};
 ghost use lib.ListN.{length};

@@ -1,6 +1,6 @@
 // Step 6 of light to shade by the row: the shades of a row of values as two bits a pixel, eight to a byte. No step turns on a value,
 // so that many columns are done at a time.
-use sensor::either;
+use sensor::shade::either;
 ghost use mathlib.Core.Path.{_≡_};
 ghost use Prim.Native.Nat.{_+_, _*_, _/_, _%_, _<_};
 ghost use lib.ListN.{length, getD};

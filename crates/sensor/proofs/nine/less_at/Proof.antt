@@ -1,4 +1,4 @@
--- `sensor::less_at` meets its contract: a byte less 128 fits. Assumes nothing.
+-- `sensor::nine::less_at` meets its contract: a byte less 128 fits. Assumes nothing.
 use borrow.Author.Needs.{needs}
 use native.Mathlib.Nat.{le-refl}
 use native.Mathlib.Omega.{arith}
@@ -6,8 +6,8 @@ use lib.IntN.{pos}
 use lib.ListN.{getD}
 use mir.Syntax.{w32}
 use Rattle.laws.proofs.Signed.{E, val, sub, fits, read}
-use Rattle.sensor.proofs.less_at.Statement.{statement}
-use Rattle.sensor.proofs.less_at.Tie as tie
+use Rattle.sensor.proofs.nine.less_at.Statement.{statement}
+use Rattle.sensor.proofs.nine.less_at.Tie as tie
 
 module _ (c : tie.After-shared-slice-known) where
   abbrev lit : E w32
