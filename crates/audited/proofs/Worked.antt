@@ -21,7 +21,7 @@ use Rattle.history.proofs.Shows.{starts-told}
 use Rattle.history.proofs.Counts.{started-counts}
 use Rattle.history.proofs.Cycles.{cycles}
 use Rattle.history.proofs.Observed.{starts-seen, ends-seen, goes-seen, landed-seen}
-use Rattle.history.proofs.Worked.{ram, store, image, ram-bytes}
+use Rattle.worked.proofs.Worked.{ram, store, image, ram-bytes}
 use Rattle.lines.specs.declared.line.Frame.{Frame}
 use Rattle.lines.specs.declared.line.Frame.the-variants.{Reset, Read, Write, Tick, Row, Malformed}
 use Rattle.lines.specs.Line.{frameOf}

@@ -4,10 +4,10 @@ use mathlib.Core.Bool.{true}
 use mathlib.Core.List.{List, [], _∷_, _++_}
 use Rattle.tiles.specs.Tiles.{areaOf}
 use Rattle.history.specs.Seen.{afresh}
-use Rattle.history.proofs.Worked.{ram, store, image, other, file, premises, ram-bytes}
-use Rattle.history.proofs.Worked as history
+use Rattle.worked.proofs.Worked.{ram, store, image, other, file, premises, ram-bytes}
+use Rattle.worked.proofs.Worked as history
 use Rattle.history.proofs.Observed.{goes-seen, landed-seen}
-use Rattle.history.proofs.WorkedSeen.{worked-seen}
+use Rattle.worked.proofs.WorkedSeen.{worked-seen}
 use Rattle.carried.specs.Exported.{Export, read, write, tick, inspect, place, callOf, atReset, hands, handsOn, fits, allFit}
 use Rattle.carried.specs.Shown.{startShown, endShown, heldOn, AreaKept, Begun, bytesAfter, registersIn, Finished}
 use Rattle.carried.proofs.Carried.{starts-shown, ends-shown, held-since, landed-since, end-shown, one-kept}

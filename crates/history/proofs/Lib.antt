@@ -18,6 +18,3 @@ pub mod Chosen
 pub mod Placed
 pub mod TwoTicks
 pub mod Observed
-pub mod Worked
-pub mod WorkedBits
-pub mod WorkedSeen

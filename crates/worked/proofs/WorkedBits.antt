@@ -15,13 +15,13 @@ use Rattle.tiles.specs.Picture.{pictureShade}
 use Rattle.controller.specs.Table.{onCartridge}
 use Rattle.placing.specs.Placing.{pixelsOf, placedByte, placedArea}
 use Rattle.placing.proofs.RoundTrip.{out-in, plate-is}
 use Rattle.history.specs.History.{Call, write, tick, place, fresh, after}
 use Rattle.history.specs.Seen.{inArea, byteIn}
 use Rattle.history.specs.Bits.{cycleOf, bitAt, shadeSent}
 use Rattle.history.proofs.Track.{atReset, writeAccepted, tickAccepted, placeAccepted, cyclesOf, runsIn, ends, toRam, placeOf, lands, enabling, selecting, storing, beginning, running, ending, controlled, registered, written, next, litBy}
 use Rattle.history.proofs.Since.{sendsTold, sentTold, lastTold}
 use Rattle.history.proofs.Touched.{touched-told}
-use Rattle.history.proofs.Worked.{ram, store, image, other, white, file, set-up, start, regs, all-bytes}
+use Rattle.worked.proofs.Worked.{ram, store, image, other, white, file, set-up, start, regs, all-bytes}
 
 -- the registers are selected and set; the file of a white plate is placed; a start, 3,000 cycles, a stop, and 500 cycles that stand still
 abbrev pub stopped : List Call

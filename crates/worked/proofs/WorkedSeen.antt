@@ -3,11 +3,11 @@ use mathlib.Core.Path.{_≡_, refl, sym, _∙_}
 use mathlib.Core.Bool.{true}
 use mathlib.Core.List.{List, [], _∷_, _++_}
 use Rattle.tiles.specs.Tiles.{areaOf}
 use Rattle.history.specs.History.{Call, fresh, after}
 use Rattle.history.specs.Seen.{endSeen, AreaLeft, Start, worldAfter, afreshOf, Ended}
 use Rattle.history.proofs.Track.{follow}
-use Rattle.history.proofs.Worked.{ram, store, image, before, start, between, last, premises, ram-bytes}
+use Rattle.worked.proofs.Worked.{ram, store, image, before, start, between, last, premises, ram-bytes}
 use Rattle.history.proofs.Observed.{starts-seen, ends-seen, goes-seen, landed-seen, end-seen, one-left}
 
 -- the calls up to the last
 abbrev pub so-far : List Call

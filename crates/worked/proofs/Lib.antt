@@ -1,0 +1,4 @@
+-- Worked histories.
+pub mod Worked
+pub mod WorkedBits
+pub mod WorkedSeen

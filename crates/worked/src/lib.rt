@@ -1,0 +1,1 @@
+// Worked histories: calls that meet the premises of the theorems on histories; no code.
