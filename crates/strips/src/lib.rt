@@ -1,12 +1,13 @@
-// Step 6 of light to shade by the row: the shades of a row of values as two bits a pixel, eight to a byte. No step turns on a value,
-// so that many columns are done at a time.
+// Step 6 of light to shade by the row: the shades of a row of values as two bits a pixel, eight to a byte. No step turns on a value, so that many
+// columns are done at a time. They are turned for it: first the first of every eight columns, then the second of every eight, and so on, so that
+// what is alike stands side by side, and eight bits are added up where they stand.
 use sensor::shade::either;
 ghost use mathlib.Core.Path.{_≡_};
 ghost use Prim.Native.Nat.{_+_, _*_, _/_, _%_, _<_};
 ghost use lib.ListN.{length, getD};
 ghost use Rattle.laws.specs.Lists.{listed};
 ghost use Rattle.sensor.specs.Shade.{shadeBy};
-ghost use Rattle.strips.specs.Aside.{lowOf, highOf, spreadOf, lowBy, highBy, sumOf, Weighed};
+ghost use Rattle.strips.specs.Aside.{byteOf, columnOf, spreadOf, lowBy, highBy, sumOf, Weighed};
 
 // What a value adds to the byte of low bits, and to that of high bits, w the weight of its place. The tests are put so that each is a vector's own.
 fn low_weight(v: u8, l: u8, m: u8, h: u8, w: u8) -> u8
@@ -21,35 +22,57 @@ fn high_weight(v: u8, l: u8, m: u8, h: u8, w: u8) -> u8
     either(v < l, w, either(v < m, w, 0))
 }
 
-// The weights of sixteen columns, which are two bytes: the first pixel's bit is the highest.
-const WEIGHTS: [u8; 16] = [128, 64, 32, 16, 8, 4, 2, 1, 128, 64, 32, 16, 8, 4, 2, 1];
+// The weights of eight columns: the first pixel's bit is the highest.
+const WEIGHTS: [u8; 8] = [128, 64, 32, 16, 8, 4, 2, 1];
 
-// One of the three thresholds of a row of the matrix, for sixteen columns.
-fn thresholds(regs: &[u8; 54], at: usize) -> [u8; 16]
+// One of the three thresholds of a row of the matrix, for eight columns.
+fn thresholds(regs: &[u8; 54], at: usize) -> [u8; 8]
     requires { ⌜ at < 45 ⌝ }
-    ensures { λ r. ⌜ r ≡ listed (λ i. getD (now (regs .entry)) (at + 3 * (i % 4)) 0) 16 ⌝ }
+    ensures { λ r. ⌜ r ≡ listed (λ b. getD (now (regs .entry)) (at + 3 * (b % 4)) 0) 8 ⌝ }
 {
     let a = regs[at];
     let b = regs[at + 3];
     let c = regs[at + 6];
     let d = regs[at + 9];
-    [a, b, c, d, a, b, c, d, a, b, c, d, a, b, c, d]
+    [a, b, c, d, a, b, c, d]
 }
 
-// What stands at sixteen columns, for all 128.
-fn repeat(sixteen: [u8; 16]) -> [u8; 128]
-    ensures { λ r. ⌜ r ≡ listed (λ x. getD sixteen (x % 16) 0) 128 ⌝ }
+// What stands at eight columns, for all 128, turned.
+fn repeat(eight: [u8; 8]) -> [u8; 128]
+    ensures { λ r. ⌜ r ≡ listed (λ p. getD eight (p / 16) 0) 128 ⌝ }
 {
     let mut out = [0u8; 128];
-    for t in 0..8 {
-        for i in 0..16 {
-            out[16 * t + i] = sixteen[i];
+    for b in 0..8 {
+        for t in 0..16 {
+            out[16 * b + t] = eight[b];
         }
     }
     out
 }
 
-// The matrix spread over the columns: for each of its four rows the first thresholds of all 128, then the second, and then the third.
+// The two halves of a row, one from each by turns: a vector's own step.
+fn interleave(a: &[u8; 128]) -> [u8; 128]
+    ensures { λ r. ⌜ r ≡ listed (λ p. getD (now (a .entry)) (p % 2 * 64 + p / 2) 0) 128 ⌝ }
+{
+    let mut out = [0u8; 128];
+    for i in 0..64 {
+        out[2 * i] = a[i];
+        out[2 * i + 1] = a[i + 64];
+    }
+    out
+}
+
+// A row of values, turned: four such steps.
+fn turn(values: &[u8; 128]) -> [u8; 128]
+    ensures { λ r. ⌜ r ≡ listed (λ p. getD (now (values .entry)) (columnOf p) 0) 128 ⌝ }
+{
+    let once = interleave(values);
+    let twice = interleave(&once);
+    let thrice = interleave(&twice);
+    interleave(&thrice)
+}
+
+// The matrix spread over the columns, turned: for each of its four rows the first thresholds of all 128, then the second, and then the third.
 pub fn spread(regs: &[u8; 54], out: &mut [u8])
     requires { ⌜ length (now out) ≡ 1536 ⌝ }
     ensures { λ _. ⌜ now (out .exit) ≡ spreadOf (now (regs .entry)) ⌝ }
@@ -62,7 +85,7 @@ pub fn spread(regs: &[u8; 54], out: &mut [u8])
     }
 }
 
-// The weighed bits of a row of values: its thresholds stand from `at` on.
+// The weighed bits of a row of values, turned: its thresholds stand from `at` on.
 fn weigh(
     values: &[u8; 128],
     matrix: &[u8; 1536],
@@ -85,34 +108,32 @@ fn weigh(
     }
 }
 
-// The sum of eight weighed bits.
+// The sum of eight weighed bits, those of columns 8 * t to 8 * t + 7.
 fn sum_of(s: &[u8; 128], t: usize) -> u8
     requires { ⌜ (t < 16) × Weighed (now s) ⌝ }
-    ensures { λ r. ⌜ r ≡ sumOf (now (s .entry)) (8 * t) ⌝ }
+    ensures { λ r. ⌜ r ≡ sumOf (now (s .entry)) t ⌝ }
 {
-    let x = 8 * t;
-    s[x] + s[x + 1] + s[x + 2] + s[x + 3] + s[x + 4] + s[x + 5] + s[x + 6] + s[x + 7]
+    s[t] + s[t + 16] + s[t + 32] + s[t + 48] + s[t + 64] + s[t + 80] + s[t + 96] + s[t + 112]
 }
 
-// The low bits of a row's shades, and their high bits, sixteen bytes of each. `matrix` is that of `regs`, spread.
+// The shades of a row as 16 pairs of bytes, eight pixels each: their low bits, and their high bits. `matrix` is that of `regs`, spread.
 pub fn shade_row(
     values: &[u8; 128],
     matrix: &[u8; 1536],
     regs: &[u8; 54],
     row: usize,
-    low: &mut [u8],
-    high: &mut [u8],
+    pairs: &mut [u8],
 )
-    requires { ⌜ (now matrix ≡ spreadOf (now regs)) × (length (now low) ≡ 16) × (length (now high) ≡ 16) ⌝ }
-    ensures { λ _. ⌜ (now (low .exit) ≡ listed (λ t. lowOf (now (values .entry)) (now (regs .entry)) t row) 16)
-        × (now (high .exit) ≡ listed (λ t. highOf (now (values .entry)) (now (regs .entry)) t row) 16) ⌝ }
+    requires { ⌜ (now matrix ≡ spreadOf (now regs)) × (length (now pairs) ≡ 32) ⌝ }
+    ensures { λ _. ⌜ now (pairs .exit) ≡ listed (byteOf (now (values .entry)) (now (regs .entry)) row) 32 ⌝ }
 {
     let w = repeat(WEIGHTS);
+    let turned = turn(values);
     let mut lows = [0u8; 128];
     let mut highs = [0u8; 128];
-    weigh(values, matrix, 128 * (row % 4), &w, &mut lows, &mut highs);
+    weigh(&turned, matrix, 128 * (row % 4), &w, &mut lows, &mut highs);
     for t in 0..16 {
-        low[t] = sum_of(&lows, t);
-        high[t] = sum_of(&highs, t);
+        pairs[2 * t] = sum_of(&lows, t);
+        pairs[2 * t + 1] = sum_of(&highs, t);
     }
 }

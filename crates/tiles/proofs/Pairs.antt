@@ -14,7 +14,7 @@ use Rattle.lighting.specs.declared.Setting.{Setting}
 use Rattle.lighting.specs.Taken.{settingOf}
 use Rattle.sensor.specs.Shade.{valueAt, shadeOf, shadeAt}
 use Rattle.rows.specs.Aside.{valueRow}
-use Rattle.strips.specs.Aside.{lowOf, highOf}
+use Rattle.strips.specs.Aside.{lowOf, highOf, byteOf}
 use Rattle.tiles.specs.Tiles.{place, Bytes}
 use Rattle.tiles.specs.Picture.{lowByte, highByte, pictureByte, pictureOf}
 use Rattle.tiles.specs.Aside.{pixels}
@@ -43,11 +43,20 @@ module _ (lit : ℕ → ℕ → ℕ) (regs : List ℕ) (set : Setting) (asked : 
 
   -- as they are made of a row of values
   module _ {values : List ℕ} (made : values ≡ valueRow lit set (y + 8)) where
-    pub low-made : {low : List ℕ} → low ≡ listed (λ t. lowOf values regs t (y + 8)) 16 → getD low t 0 ≡ lowByte lit regs t y
-    low-made e = rw (e, listed-at (λ t. lowOf values regs t (y + 8)) 16 t ht, made) low-same
+    module _ {pairs : List ℕ} (put : pairs ≡ listed (byteOf values regs (y + 8)) 32) where
+      pub low-made : getD pairs (2 * t) 0 ≡ lowByte lit regs t y
+      unfolding byteOf
+      low-made =
+          let a : 2 * t % 2 ≡ 0 = omega arith in
+          let b : 2 * t / 2 ≡ t = omega arith in
+          rw (put, listed-at (byteOf values regs (y + 8)) 32 (2 * t) (omega arith), a, b, made) low-same
 
-    pub high-made : {high : List ℕ} → high ≡ listed (λ t. highOf values regs t (y + 8)) 16 → getD high t 0 ≡ highByte lit regs t y
-    high-made e = rw (e, listed-at (λ t. highOf values regs t (y + 8)) 16 t ht, made) high-same
+      pub high-made : getD pairs (2 * t + 1) 0 ≡ highByte lit regs t y
+      unfolding byteOf
+      high-made =
+          let a : (2 * t + 1) % 2 ≡ 1 = omega arith in
+          let b : (2 * t + 1) / 2 ≡ t = omega arith in
+          rw (put, listed-at (byteOf values regs (y + 8)) 32 (2 * t + 1) (omega arith), a, b, made) high-same
 
 -- ---- pairs, one after another
 module _ (lit : ℕ → ℕ → ℕ) (regs : List ℕ) (at : ℕ) where

@@ -146,6 +146,7 @@ fn tile_row(store: &[u8], set: Setting, regs: &[u8], t: usize, y: usize) -> Tile
 }
 
 // Puts a row of the picture whose first byte is out[at], two bytes a tile. What is carried moves on by a row; `matrix` is that of `regs`, spread.
+// The row's values are made in `values`, which is lent so that it is made once.
 fn put_line(
     out: &mut [u8],
     at: usize,
@@ -155,6 +156,7 @@ fn put_line(
     matrix: &[u8; 1536],
     y: usize,
     carried: &mut [u8],
+    values: &mut [u8; 128],
 )
     requires { ⌜ (at + 3584 ≤ length (now out)) × (length (now store) ≡ 16384) × (y < 112) × (now matrix ≡ spreadOf (now regs)) ⌝ }
     requires { ⌜ Asked set (now regs) ⌝ }
@@ -162,16 +164,14 @@ fn put_line(
     ensures { λ _. ⌜ (now (out .exit) ≡ putPairs (byteAt (now (store .entry))) (now (regs .entry)) at (16 * y) 16 (now (out .entry)))
         × Carried (byteAt (now (store .entry))) set (y + 8 + 1) (now (carried .exit)) ⌝ }
 {
-    let mut values = [0u8; 128];
-    rows::next_row(store, set, y + 8, carried, &mut values);
-    let mut low = [0u8; 16];
-    let mut high = [0u8; 16];
-    strips::shade_row(&values, matrix, regs, y + 8, &mut low, &mut high);
+    rows::next_row(store, set, y + 8, carried, values);
+    let mut pairs = [0u8; 32];
+    strips::shade_row(values, matrix, regs, y + 8, &mut pairs);
     for t in 0..16 {
         let o = at + pair_at(t, y);
         let p = o + 1;
-        out[o] = low[t];
-        out[p] = high[t];
+        out[o] = pairs[2 * t];
+        out[p] = pairs[2 * t + 1];
     }
 }
 
@@ -193,8 +193,19 @@ fn put_rows(
     strips::spread(regs, &mut matrix);
     let mut carried = [0u8; 128];
     rows::first_row(store, set, first + 8, &mut carried);
+    let mut values = [0u8; 128];
     for k in 0..count {
-        put_line(out, at, store, set, regs, &matrix, first + k, &mut carried);
+        put_line(
+            out,
+            at,
+            store,
+            set,
+            regs,
+            &matrix,
+            first + k,
+            &mut carried,
+            &mut values,
+        );
     }
 }
 

@@ -12,7 +12,6 @@ sum-of-spec =
     (λ c. search needs)
     (λ c. search needs)
     (λ c. search needs)
-    (λ c. search needs)
     (λ c. let s = c .before .before in omega (arith, room _ (s .args .t) (s .pre .0) (s .pre .1)))
     (λ c. search needs)
     (λ c. search needs)

@@ -12,11 +12,11 @@ use Rattle.tiles.proofs.put_rows.Statement.{statement}
 use Rattle.tiles.proofs.put_rows.Tie as tie
 
 abbrev Inv-loop : tie.InvT-loop
-Inv-loop out₀ at store set regs first count matrix carried₀ k₀ out carried k =
+Inv-loop out₀ at store set regs first count matrix carried₀ values₀ k₀ out carried values k =
     (k ≤ count) × (length out ≡ length out₀) × Carried (byteAt store) set (first + k + 8) carried × (out ≡ putPairs (byteAt store) regs at (16 * first) (16 * k) out₀)
 
 abbrev μ-loop : tie.MeasureT-loop
-μ-loop out₀ at store set regs first count matrix carried₀ k₀ out carried k = count - k
+μ-loop out₀ at store set regs first count matrix carried₀ values₀ k₀ out carried values k = count - k
 
 loop-holds : tie.Need-loop-holds Inv-loop μ-loop
 loop-holds c =
@@ -26,15 +26,15 @@ loop-holds c =
 
 put-line-requires : tie.Need-put-line-requires Inv-loop μ-loop
 put-line-requires c κs =
-    let l = c .before .before .before .before .loop in
-    let m = c .before .before .before .before .before .before .before .before .before in
+    let l = c .before .before .before .before .before .loop in
+    let m = c .before .before .before .before .before .before .before .before .before .before in
     ((omega arith, omega arith, omega arith, m .spread .ensures), (m .before .before .before .before .pre .1, l .inv .2))
 
 loop-again : tie.Need-loop-again Inv-loop μ-loop
 loop-again c =
     let p = c .before .before .before .put-line in
-    let l = c .before .before .before .before .before .before .before .before .loop in
-    let a = c .before .before .before .before .before .before .before .before .before .before .before .before .before .before .before .before .before .args in
+    let l = c .before .before .before .before .before .before .before .before .before .loop in
+    let a = c .before .before .before .before .before .before .before .before .before .before .before .before .before .before .before .before .before .before .args in
     let lit = byteAt (a .store .now) in
     let e : a .first + l .k + 8 + 1 ≡ a .first + (l .k + 1) + 8 = omega arith in
     let f : 16 * (a .first + l .k) ≡ 16 * a .first + 16 * l .k = omega arith in
