@@ -16,7 +16,10 @@ use Rattle.tiles.specs.Tiles.{Bytes}
 use Rattle.timing.specs.Lent.{ramAllowed}
 use Rattle.timing.proofs.Lent.{ram-lent}
 use Rattle.controller.specs.Table.{lowest}
-use Rattle.controller.proofs.Refusals.{Refuses, refuses, risingFrom, first-fails}
+use Rattle.controller.specs.declared.Verdict.{Verdict}
+use Rattle.controller.specs.declared.Verdict.the-variants as verdicts
+use Rattle.controller.specs.Outcome.{verdictNumber}
+use Rattle.controller.proofs.Refusals.{Refuses, refuses, risingFrom, first-fails, by-fits}
 use Rattle.layout.specs.Layout.{encoded, isRecord, decoded}
 use Rattle.layout.proofs.Inverse.{encode-decode}
 use Rattle.lines.specs.Hex.{placed}
@@ -147,6 +150,30 @@ module _ (s rom ram store image book line out : List ℕ) where
   pub end-says : lowest (auditRows s book line out) ≡ 0
       → Says (endBytes s rom ram store image book line out .answer) 0 (noted (endAudited rom w book line out .book) written % 4294967296)
   end-says e = rw (end-refuses .does e) (packed-says _ _ (omega arith))
+
+-- a piece that was read: its value is small
+pub audit-small : (s′ ram′ store′ image′ book′ line′ out′ : List ℕ) (u : ℕ) (rom : List ℕ) (w : World) (b line out taken piece : List ℕ)
+    → standing (world (decoded s′) ram′ store′ image′) book′ line′ out′ u ≡ pieceAudited rom w b line out taken → taken ≡ lent piece → u < 4294967296
+audit-small s′ ram′ store′ image′ book′ line′ out′ u rom w b line out taken piece e t =
+    omega (arith, ap (λ (x : Standing). x .used) e, piece-used rom w b line out taken, ap length t, lent-most piece)
+
+module _ (s rom ram store image book line out s′ ram′ store′ image′ book′ line′ out′ : List ℕ) (bytes : Bytes s′) (r : isRecord s′ ≡ true)
+    (v : Verdict) (j : verdictNumber v ≡ lowest (auditRows s book line out)) (f : v ≡ verdicts.Fits) where
+  -- a piece that was read, answered
+  pub audit-done : (taken piece : List ℕ) (u p : ℕ) → standing (world (decoded s′) ram′ store′ image′) book′ line′ out′ u ≡ pieceAudited rom (world (decoded s) ram store image) book line out taken
+      → taken ≡ lent piece → p ≡ packed 0 u → auditing p s′ ram′ store′ image′ book′ line′ out′ ≡ auditBytes s rom ram store image book line piece out
+  audit-done taken piece u p e t q =
+      let d = e ∙ ap (λ (l : List ℕ). pieceAudited rom (world (decoded s) ram store image) book line out l) t in
+      as-standing _ _ p s′ ram′ store′ image′ book′ line′ out′ u bytes r d (q ∙ ap (λ (x : Standing). packed 0 (x .used)) d)
+      ∙ by-fits (audit-refuses s rom ram store image book line out piece) v j f
+
+  -- an end, answered
+  pub end-done : (n p : ℕ) → standing (world (decoded s′) ram′ store′ image′) book′ line′ out′ 0 ≡ endAudited rom (world (decoded s) ram store image) book line out
+      → n ≡ noted book′ written → p ≡ packed 0 (n % 4294967296) → auditing p s′ ram′ store′ image′ book′ line′ out′ ≡ endBytes s rom ram store image book line out
+  end-done n p e w q =
+      as-standing _ _ p s′ ram′ store′ image′ book′ line′ out′ 0 bytes r e
+      (q ∙ ap (λ n. packed 0 (n % 4294967296)) w ∙ ap (λ (x : Standing). packed 0 (noted (x .book) written % 4294967296)) e)
+      ∙ by-fits (end-refuses s rom ram store image book line out) v j f
 
 -- ---- changes and the summary
 

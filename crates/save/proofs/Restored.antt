@@ -118,3 +118,35 @@ restore-fits file s ram store e =
       store-fits = eqb-true _ _ (not-fails _ (f .0));
       file-fits = is;
     }
+
+-- each part has its place, and is put there
+module _ (file s ram store : List ℕ) (fit : RestoreFits file s ram store) where
+  abbrev size : Sized file
+  size = save-parts file (fit .file-fits) .size
+
+  pub state-room : 0 + length (take 121 (drop 7 file)) ≤ length s
+  state-room = omega (arith, fit .state-fits, part-long file 7 121 (omega (arith, size .long)))
+
+  pub ram-inside : 128 + length ram ≤ length file
+  ram-inside = omega (arith, size .long, fit .ram-fits)
+
+  pub store-inside : 128 + length ram + 16384 ≤ length file
+  store-inside = omega (arith, size .long, fit .ram-fits)
+
+  pub store-room : 0 + length (take (128 + length ram + 16384 - (128 + length ram)) (drop (128 + length ram) file)) ≤ length store
+  store-room =
+      let n = 128 + length ram in
+      omega (arith, fit .store-fits, part-long file n (n + 16384 - n) (omega (arith, store-inside)))
+
+  pub restore-done : (s′ ram′ store′ : List ℕ)
+      → s′ ≡ take 121 (drop 7 file) ++ drop (0 + length (take 121 (drop 7 file))) s
+      → ram′ ≡ take (128 + length ram - 128) (drop 128 file) ++ drop (0 + length (take (128 + length ram - 128) (drop 128 file))) ram
+      → store′ ≡ take (128 + length ram + 16384 - (128 + length ram)) (drop (128 + length ram) file) ++ drop (0 + length (take (128 + length ram + 16384 - (128 + length ram)) (drop (128 + length ram) file))) store
+      → restored 0 s′ ram′ store′ ≡ restored 0 (stateIn file) (ramIn file) (storeIn file)
+  restore-done s′ ram′ store′ p q r =
+      let n = 128 + length ram in
+      let long = size .long in
+      let a = taken file s 7 121 121 (omega arith) (omega (arith, long)) (fit .state-fits) p in
+      let b = taken file ram 128 (n - 128) (ramLengthIn file) (omega (arith, fit .ram-fits)) (omega (arith, long)) (fit .ram-fits) q in
+      let o = taken file store n (n + 16384 - n) 16384 (omega arith) (omega (arith, store-inside)) (fit .store-fits) r in
+      (λ i. restored 0 (a i) (b i) (o i)) ∙ ap (λ (k : ℕ). restored 0 (stateIn file) (ramIn file) (take 16384 (drop (128 + k) file))) (fit .ram-fits)

@@ -1,30 +1,26 @@
 -- `cartridge::byte_write` meets its contract. Assumes nothing.
-use Rattle.cartridge.proofs.Written.{written-control, written-register, written-ram}
-use mathlib.Core.Path.{refl, sym, ap, _∙_}
-use mathlib.Core.List.{List}
-use Prim.Native.Nat.{ℕ}
-use Rattle.cartridge.specs.Bus.{left}
-use Rattle.cartridge.proofs.Facing.{faced-write}
-use borrow.Author.Tests.{lt-ltb, le-ltb}
+use Rattle.cartridge.proofs.Written.{control-left, register-left, ram-left}
+use mathlib.Core.Path.{sym, _∙_}
 use borrow.Author.Needs.{needs}
 use Rattle.cartridge.proofs.byte_write.Statement.{statement}
 use Rattle.cartridge.proofs.byte_write.Tie as tie
 
 returns : tie.Need-returns
-returns c = cc (written-control _ _ _ _ _ _ (lt-ltb _ _ (c .before .if1 .taken)))
+returns c =
+    let a = c .before .before .before .before .before .args in
+    control-left (a .t1) (a .ram .now) (a .store .now) (a .image .now) (a .address) (a .value) (c .control-write .result) (c .before .if1 .taken) (c .control-write .ensures)
 
 returns-2 : tie.Need-returns-2
 returns-2 c =
-    let r = c .before .before .before .before .before in
-    cc (written-register _ _ _ _ _ _ (le-ltb _ _ (r .before .if1 .left)) (sym (r .registers-on .ensures) ∙ c .before .before .before .before .if2 .taken))
+    let a = c .before .before .before .before .before .before .before .before .before .before .args in
+    let w = c .before .before .register-write in
+    register-left (a .t1) (a .ram .now) (a .store .now) (a .image .now) (a .address) (a .value) (w .result) (w .last .1 .0) (c .before .before .before .before .before .before .if1 .left) (sym (c .before .before .before .before .before .registers-on .ensures) ∙ c .before .before .before .before .if2 .taken) (w .ensures)
 
 returns-3 : tie.Need-returns-3
 returns-3 c =
-    let w = c .before .before in
-    let r = w .before .before .before .before in
-    let s = r .before .before .before .before .before in
-    ap (λ (m : List ℕ). left (s .args .t1) m (s .args .store .now)) (w .ram-write .ensures ∙ faced-write (s .args .t1) _ _ _ refl refl refl)
-    ∙ sym (written-ram _ _ _ _ _ _ (le-ltb _ _ (r .before .if1 .left)) (sym (r .registers-on .ensures) ∙ w .before .before .before .if2 .left))
+    let a = c .before .before .before .before .before .before .before .before .before .before .before .args in
+    let w = c .before .before .ram-write in
+    ram-left (a .t1) (a .ram .now) (a .store .now) (a .image .now) (a .address) (a .value) (w .last .1 .1 .1 .0) (c .before .before .before .before .before .before .before .if1 .left) (sym (c .before .before .before .before .before .before .registers-on .ensures) ∙ c .before .before .before .before .before .if2 .left) (w .ensures)
 
 pub byte-write-spec : {M : Type 1} → statement M
 byte-write-spec =

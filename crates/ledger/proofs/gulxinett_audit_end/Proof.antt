@@ -1,14 +1,10 @@
 -- `ledger::gulxinett_audit_end` meets its contract: it is judged, and then the recording is ended. Assumes nothing.
-use mathlib.Core.Path.{_≡_, ap, _∙_}
+use mathlib.Core.Path.{_≡_, refl, ap, _∙_}
 use mathlib.Core.Bool.{true}
-use Prim.Native.Nat.{_%_}
-use Rattle.controller.proofs.Refusals.{by-why, by-fits, fits-none}
+use Rattle.controller.proofs.Refusals.{by-why, fits-none}
 use Rattle.layout.specs.Layout.{isRecord}
-use Rattle.answers.specs.Packed.{packed}
-use Rattle.events.specs.Book.{noted, written}
-use Rattle.pieces.specs.Pieces.{Standing}
 use Rattle.ledger.specs.Audits.{auditing, fits}
-use Rattle.ledger.proofs.Audits.{fits-sizes, audit-fits, end-refuses, as-standing}
+use Rattle.ledger.proofs.Audits.{fits-sizes, audit-fits, end-refuses, end-done}
 use borrow.Author.Needs.{needs}
 use Rattle.ledger.proofs.gulxinett_audit_end.Statement.{statement}
 use Rattle.ledger.proofs.gulxinett_audit_end.Tie as tie
@@ -38,9 +34,11 @@ returns-2 : tie.Need-returns-2
 returns-2 c =
     let p = c .before .before .before .before .before .before .before .before .before .before .before .before .before .end-audited in
     let e = c .before .before .before .before .before .before .before .before .before .before .before .before .before .before .before .before .before .before .before .before in
-    as-standing _ _ _ _ _ _ _ _ _ _ 0 (λ i. c .before .before .before .before .before .before .before .before .before .slice-known8 .given i .fits) (p .ensures .2) (p .ensures .0)
-    (c .pack .ensures ∙ ap (λ n. packed 0 (n % 4294967296)) (p .ensures .1) ∙ ap (λ (x : Standing). packed 0 (noted (x .book) written % 4294967296)) (p .ensures .0))
-    ∙ by-fits (end-refuses _ _ _ _ _ _ _ _) _ (e .before .before .judge-audit .ensures) (e .enum-told .given .1)
+    let a = c .before .before .before .before .before .before .before .before .before .before .before .before .before .before .before .before .before .before .before .before .before .before .before .before .before .before .before .before .before .before .before .before .before .before .args in
+    end-done (a .state .now) (a .rom .now) (a .ram .now) (a .store .now) (a .image .now) (a .book .now) (a .line .now) (a .out .now)
+    (p .last .1 .1 .0) (p .last .1 .1 .1 .1 .0) (p .last .1 .1 .1 .1 .1 .0) (p .last .1 .1 .1 .1 .1 .1 .0) (p .last .0) (a .line .now) (p .last .1 .1 .1 .1 .1 .1 .1 .0)
+    (λ i. c .before .before .before .before .before .before .before .before .before .slice-known8 .given i .fits) (p .ensures .2) (e .before .before .judge-audit .result) (e .before .before .judge-audit .ensures) (e .enum-told .given .1)
+    (p .result) (c .pack .result) (p .ensures .0) (p .ensures .1) (c .pack .ensures)
 
 pub gulxinett-audit-end-spec : {M : Type 1} → statement M
 gulxinett-audit-end-spec =
@@ -49,18 +47,18 @@ gulxinett-audit-end-spec =
     (λ c κs. search needs)
     (λ c. search needs)
     (λ c κs. search needs)
-    (λ c. search needs)
-    (λ c. search needs)
-    (λ c. search needs)
+    (λ c. refl)
+    (λ c. refl)
+    (λ c. refl)
     returns
     (λ c. search needs)
     end-audited-requires
     (λ c. search needs)
     (λ c κs. search needs)
-    (λ c. search needs)
-    (λ c. search needs)
-    (λ c. search needs)
-    (λ c. search needs)
-    (λ c. search needs)
-    (λ c. search needs)
+    (λ c. c .before .before .before .before .before .before .before .before .before .before .before .before .before .end-audited .kept .0)
+    (λ c. c .before .before .before .before .before .before .before .before .before .before .before .before .before .end-audited .kept .1 .1 .0)
+    (λ c. c .before .before .before .before .before .before .before .before .before .before .before .before .before .end-audited .kept .1 .1 .1 .1 .0)
+    (λ c. c .before .before .before .before .before .before .before .before .before .before .before .before .before .end-audited .kept .1 .1 .1 .1 .1 .0)
+    (λ c. c .before .before .before .before .before .before .before .before .before .before .before .before .before .end-audited .kept .1 .1 .1 .1 .1 .1 .0)
+    (λ c. c .before .before .before .before .before .before .before .before .before .before .before .before .before .end-audited .kept .1 .1 .1 .1 .1 .1 .1 .0)
     returns-2)

@@ -2,6 +2,8 @@
 use mathlib.Core.Path.{sym, _∙_}
 use native.Mathlib.Omega.{arith}
 use lib.Seq.{length-take-le}
+use Rattle.layout.specs.Layout.{decoded}
+use Rattle.session.specs.Session.{world}
 use Rattle.pieces.proofs.Pieces.{piece-ended, piece-kept}
 use borrow.Author.Needs.{needs}
 use Rattle.pieces.proofs.piece_audited.Statement.{statement}
@@ -29,46 +31,38 @@ slice-aggregate-line-audited : tie.Need-slice-aggregate-line-audited
 slice-aggregate-line-audited c = sym (length-take-le _ _ (omega (arith, c .before .before .before .before .before .before .before .before .before .hold .ensures .2, c .before .before .before .before .before .before .before .before .line .given, c .before .before .before .before .before .before .before .before .before .before .before .before .before .before .before .before .before .before .before .before .before .before .before .before .pre .2)))
 
 line-audited-requires : tie.Need-line-audited-requires
-line-audited-requires c κs = search needs
+line-audited-requires c κs = (c .before .before .before .before .before .before .before .before .before .before .before .before .before .before .before .before .before .before .before .before .before .before .before .before .before .pre .0, c .before .before .before .before .before .before .before .before .before .before .before .before .before .before .before .before .before .before .before .before .before .before .before .before .before .pre .1, omega (arith, c .before .before .before .before .before .before .before .before .before .before .before .before .before .before .before .before .before .before .before .before .before .before .before .before .before .pre .3))
 
 note-requires : tie.Need-note-requires
 note-requires c κs = c .before .before .before .before .before .before .before .before .before .before .before .before .book .given ∙ c .before .before .before .before .before .before .before .before .before .before .before .before .before .before .before .before .before .before .before .before .before .before .before .before .before .before .before .before .before .before .before .before .before .before .before .before .before .before .before .pre .1
 
-same-length : tie.Need-same-length
-same-length c = search needs
-
-same-length-2 : tie.Need-same-length-2
-same-length-2 c = search needs
-
-same-length-3 : tie.Need-same-length-3
-same-length-3 c = search needs
-
-same-length-4 : tie.Need-same-length-4
-same-length-4 c = search needs
-
-same-length-5 : tie.Need-same-length-5
-same-length-5 c = search needs
-
-same-length-6 : tie.Need-same-length-6
-same-length-6 c = search needs
-
-same-length-7 : tie.Need-same-length-7
-same-length-7 c = search needs
-
 returns : tie.Need-returns
-returns c = (piece-ended _ _ _ _ _ _ _ _ _ _ (c .before .before .before .before .before .before .before .before .before .before .before .before .before .before .before .before .before .before .before .before .before .before .before .before .before .before .before .before .before .before .before .before .line-end .ensures) (c .before .before .before .before .before .before .before .before .before .before .before .before .before .before .before .before .before .before .before .before .before .before .before .before .before .before .before .before .before .before .held-in .ensures .0) (c .before .before .before .before .before .before .before .before .before .before .before .before .before .before .before .before .before .before .before .before .before .before .before .before .before .before .before .hold .ensures .0) (c .before .before .before .before .before .before .before .before .before .before .before .before .before .before .before .before .before .before .before .before .before .before .before .before .before .before .before .hold .ensures .1) (c .before .before .before .before .before .before .before .before .before .before .before .before .before .before .before .before .before .before .before .before .before .before .before .before .if1 .taken) _ _ _ _ (c .before .before .before .before .before .before .before .before .before .before .before .before .before .before .before .before .line-audited .ensures .0) _ (c .before .before .note .ensures), c .before .before .before .before .before .before .before .before .before .before .before .before .before .before .before .before .line-audited .ensures .1)
+returns c =
+    let a = c .before .before .before .before .before .before .before .before .before .before .before .before .before .before .before .before .before .before .before .before .before .before .before .before .before .before .before .before .before .before .before .before .before .before .before .before .before .before .before .before .before .before .args in
+    let l = c .before .before .before .before .before .before .before .before .before .before .before .before .before .before .before .before .before .before .before .before .before .before .before .before .before .before .before .before .before .before .before .before .line-end in
+    let o = c .before .before .before .before .before .before .before .before .before .before .before .before .before .before .before .before .before .before .before .before .before .before .before .before .before .before .before .before .before .before .held-in in
+    let h = c .before .before .before .before .before .before .before .before .before .before .before .before .before .before .before .before .before .before .before .before .before .before .before .before .before .before .before .hold in
+    let d = c .before .before .before .before .before .before .before .before .before .before .before .before .before .before .before .before .line-audited in
+    let m = c .before .before .note in (
+      piece-ended (a .rom .now) (world (decoded (a .state .now)) (a .ram .now) (a .store .now) (a .image .now)) (a .book .now) (a .line .now) (a .out .now) (a .piece .now) (l .result) (o .result) (h .result) (h .last .0) (l .ensures) (o .ensures .0) (h .ensures .0) (h .ensures .1) (c .before .before .before .before .before .before .before .before .before .before .before .before .before .before .before .before .before .before .before .before .before .before .before .before .if1 .taken)
+          (world (decoded (d .last .1 .0)) (d .last .1 .1 .1 .0) (d .last .1 .1 .1 .1 .0) (d .last .1 .1 .1 .1 .1 .0)) (d .last .0) (d .last .1 .1 .1 .1 .1 .1 .1 .0) (d .result) (d .ensures .0) (m .last .0) (m .ensures),
+      d .ensures .1,
+    )
 
 note-requires-2 : tie.Need-note-requires-2
-note-requires-2 c κs = search needs
-
-same-length-8 : tie.Need-same-length-8
-same-length-8 c = search needs
-
-same-length-9 : tie.Need-same-length-9
-same-length-9 c = search needs
+note-requires-2 c κs = c .before .before .before .before .before .before .before .before .before .before .before .before .before .before .before .before .before .before .before .pre .1
 
 returns-2 : tie.Need-returns-2
-returns-2 c = (piece-kept _ _ _ _ _ _ _ _ _ _ (c .before .before .before .before .before .before .before .before .before .before .before .before .line-end .ensures) (c .before .before .before .before .before .before .before .before .before .before .held-in .ensures .0) (c .before .before .before .before .before .before .before .hold .ensures .0) (c .before .before .before .before .before .before .before .hold .ensures .1) (omega (arith, c .before .before .before .before .if1 .left)) _ (c .before .before .note2 .ensures), c .before .before .before .before .before .before .before .before .before .before .before .before .before .before .before .before .before .before .before .before .before .before .pre .0)
+returns-2 c =
+    let a = c .before .before .before .before .before .before .before .before .before .before .before .before .before .before .before .before .before .before .before .before .before .before .args in
+    let l = c .before .before .before .before .before .before .before .before .before .before .before .before .line-end in
+    let o = c .before .before .before .before .before .before .before .before .before .before .held-in in
+    let h = c .before .before .before .before .before .before .before .hold in
+    let m = c .before .before .note2 in (
+      piece-kept (a .rom .now) (world (decoded (a .state .now)) (a .ram .now) (a .store .now) (a .image .now)) (a .book .now) (a .line .now) (a .out .now) (a .piece .now) (l .result) (o .result) (h .result) (h .last .0) (l .ensures) (o .ensures .0) (h .ensures .0) (h .ensures .1) (omega (arith, c .before .before .before .before .if1 .left))
+          (m .last .0) (m .ensures),
+      c .before .before .before .before .before .before .before .before .before .before .before .before .before .before .before .before .before .before .before .before .before .before .pre .0,
+    )
 
 pub piece-audited-spec : {M : Type 1} → statement M
 piece-audited-spec =
@@ -83,15 +77,15 @@ piece-audited-spec =
     slice-aggregate-line-audited
     line-audited-requires
     note-requires
-    same-length
-    same-length-2
-    same-length-3
-    same-length-4
-    same-length-5
-    same-length-6
-    same-length-7
+    (λ c. c .before .before .note .kept .0 ∙ c .before .before .before .before .before .before .before .before .before .before .before .before .before .before .before .before .line-audited .kept .0)
+    (λ c. c .before .before .before .before .before .before .before .before .before .before .before .before .before .before .before .before .before .before .before .before .before .before .before .before .before .before .before .hold .kept .0)
+    (λ c. c .before .before .before .before .before .before .before .before .before .before .before .before .before .before .before .before .line-audited .kept .1 .0)
+    (λ c. c .before .before .before .before .before .before .before .before .before .before .before .before .before .before .before .before .line-audited .kept .1 .1 .1 .0)
+    (λ c. c .before .before .before .before .before .before .before .before .before .before .before .before .before .before .before .before .line-audited .kept .1 .1 .1 .1 .0)
+    (λ c. c .before .before .before .before .before .before .before .before .before .before .before .before .before .before .before .before .line-audited .kept .1 .1 .1 .1 .1 .0)
+    (λ c. c .before .before .before .before .before .before .before .before .before .before .before .before .before .before .before .before .line-audited .kept .1 .1 .1 .1 .1 .1 .1 .0)
     returns
     note-requires-2
-    same-length-8
-    same-length-9
+    (λ c. c .before .before .note2 .kept .0)
+    (λ c. c .before .before .before .before .before .before .before .hold .kept .0)
     returns-2)

@@ -65,6 +65,7 @@ loop-less c = omega (arith, c .line-end2 .ensures .after, c .before .before .bef
 
 loop-again : tie.Need-loop-again Inv-loop μ-loop
 loop-again c =
+    let a = c .before .before .before .before .before .before .before .before .before .before .before .before .before .before .before .before .before .before .before .before .before .before .before .before .before .before .before .before .before .before .before .before .before .before .before .before .before .before .before .before .before .before .before .before .before .before .before .before .before .before .before .before .args in
     let l = c .before .before .before .before .before .before .before .before .before .before .before .before .before .before .before .before .before .before .before .before .before .before .before .before .before .before .before .before .before .before .before .before .before .before .before .before .before .before .before .before .before .before .loop in
     let t = went-on (c .before .before .before .before .before .before .before .before .before .before .before .before .before .before .before .before .before .before .before .before .before .before .before .before .before .before .before .before .before .before .before .before .before .before .before .before .before .before .before .before .before .before .loop .end) (length (c .before .before .before .before .before .before .before .before .before .before .before .before .before .before .before .before .before .before .before .before .before .before .before .before .before .before .before .before .before .before .before .before .before .before .before .before .before .before .before .before .before .before .before .before .before .before .before .before .before .before .before .before .args .piece .now)) (length (c .before .before .before .before .before .before .before .before .before .before .before .before .before .before .before .before .before .before .before .before .before .before .before .before .before .before .before .before .before .before .before .before .before .before .before .before .before .before .before .before .before .before .loop .out) - (c .before .before .before .before .before .before .before .before .before .before .before .before .before .before .before .before .before .before .before .before .before .before .before .before .before .before .before .before .before .before .before .before .before .before .before .before .before .before .before .before .before .before .loop .at)) (c .before .before .before .before .before .before .before .before .before .before .before .before .before .before .before .before .before .before .before .before .before .before .before .before .before .before .before .before .before .before .before .before .before .before .before .before .before .before .before .before .before .goes-on .result) (c .before .before .before .before .before .before .before .before .before .before .before .before .before .before .before .before .before .before .before .before .before .before .before .before .before .before .before .before .before .before .before .before .before .before .before .before .before .before .before .before .before .goes-on .ensures) (c .before .before .before .before .before .before .before .before .before .before .before .before .before .before .before .before .before .before .before .before .before .before .before .before .before .before .before .before .before .before .before .before .before .before .before .before .before .before .before .before .if1 .taken) in
     let d = c .before .before .before .before .before .before .before .before .before .before .before .before .before .before .before .before .before .before .before .before .before .before .before .before .before .before .before .before .before .before .before .before .line-audited in
@@ -78,7 +79,7 @@ loop-again c =
       m .kept .0 ∙ d .kept .0 ∙ l .inv .6,
       m .ensures .1,
       c .line-end2 .ensures,
-      m .ensures .0 .swept _ _ _ (d .kept .1 .1 .1 .1 .1 .1 .1 .0 ∙ l .inv .5) (sweeps-line _ _ _ _ _ _ _ _ _ _ (l .inv .9) _ (l .inv .8) (t .0) _ _ _ _ (d .ensures .0) (omega (arith, t .1, l .inv .5))),
+      m .ensures .0 .swept (world (decoded (a .state .now)) (a .ram .now) (a .store .now) (a .image .now)) (a .book .now) (a .out .now) (d .kept .1 .1 .1 .1 .1 .1 .1 .0 ∙ l .inv .5) (sweeps-line (a .rom .now) (world (decoded (a .state .now)) (a .ram .now) (a .store .now) (a .image .now)) (a .book .now) (a .piece .now) (a .out .now) (world (decoded (l .state)) (l .ram) (l .store) (l .image)) (l .book) (l .out) (l .i) (l .at) (l .inv .9) (l .end) (l .inv .8) (t .0) (world (decoded (d .last .1 .0)) (d .last .1 .1 .1 .0) (d .last .1 .1 .1 .1 .0) (d .last .1 .1 .1 .1 .1 .0)) (d .last .0) (d .last .1 .1 .1 .1 .1 .1 .1 .0) (d .result) (d .ensures .0) (omega (arith, t .1, l .inv .5))),
     )
 
 same-length : tie.Need-same-length Inv-loop μ-loop

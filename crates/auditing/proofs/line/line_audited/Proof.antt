@@ -1,6 +1,10 @@
 -- `auditing::line::line_audited` meets its contract: what is seen of the two records is what is seen of the call. Assumes nothing.
 use mathlib.Core.Path.{refl, sym, _∙_}
 use native.Mathlib.Omega.{arith}
+use lib.ListN.{length}
+use Rattle.layout.specs.Layout.{decoded}
+use Rattle.session.specs.Session.{world}
+use Rattle.events.specs.Aside.{factsOf}
 use Rattle.calls.proofs.Bytes.{long, part-at, part-long, taken-at}
 use Rattle.auditing.proofs.Lines.{end-allowed, line-audits}
 use borrow.Author.Needs.{needs}
@@ -17,7 +21,7 @@ look-requires : tie.Need-look-requires
 look-requires c κs = search needs
 
 carry-out-requires : tie.Need-carry-out-requires
-carry-out-requires c κs = search needs
+carry-out-requires c κs = (c .before .before .before .before .before .before .before .before .before .before .before .before .before .before .before .before .before .pre .0, c .before .before .before .before .before .before .before .before .frame-of .ensures)
 
 look-requires-2 : tie.Need-look-requires-2
 look-requires-2 c κs = search needs
@@ -39,11 +43,23 @@ part-entered-by-end c = search needs
 
 entered-by-requires : tie.Need-entered-by-requires
 entered-by-requires c κs =
-    let j = c .before .before .before .before .before .before in
-    (j .before .before .before .before .before .before .before .before .before .before .before .before .before .before .before .before .before .before .before .before .before .before .before .before .before .before .before .before .before .before .pre .1, j .before .before .before .before .before .before .before .before .before .before .before .before .before .before .before .before .before .before .before .before .before .before .before .before .before .before .before .before .before .before .pre .2, part-long _ (j .before .before .before .before .before .before .before .before .before .before .before .before .carry-out .ensures .1), end-allowed _ _ (j .before .before .before .before .before .before .before .before .before .before .before .before .before .before .before .before .before .before .before .before .before .before .before .before .before .before .before .before .before .before .args .book .now) _ _ _ _ (j .before .before .before .before .before .before .before .before .before .before .before .before .before .before .before .before .before .before .before .before .before .frame-of .ensures) (j .before .before .before .before .before .before .before .before .before .before .before .before .carry-out .ensures .0) _ _ _ _ _ _ _ (j .before .before .before .before .before .before .before .before .before .before .before .before .before .before .before .before .before .before .before .asks-of .ensures) (j .before .before .before .before .before .before .before .before .before .before .before .before .before .before .before .before .before .look .ensures) (j .before .before .look2 .ensures) (j .before .landed .ensures) (j .kind-of .ensures) refl (part-at _ (j .before .before .before .before .before .before .before .before .before .before .before .before .carry-out .ensures .1) ∙ sym (taken-at _)))
+    let a = c .before .before .before .before .before .before .before .before .before .before .before .before .before .before .before .before .before .before .before .before .before .before .before .before .before .before .before .before .before .before .before .before .before .before .before .before .args in
+    let f = c .before .before .before .before .before .before .before .before .before .before .before .before .before .before .before .before .before .before .before .before .before .before .before .before .before .before .before .frame-of in
+    let k = c .before .before .before .before .before .before .before .before .before .before .before .before .before .before .before .before .before .before .before .before .before .before .before .before .before .asks-of in
+    let b = c .before .before .before .before .before .before .before .before .before .before .before .before .before .before .before .before .before .before .before .before .before .before .before .look in
+    let d = c .before .before .before .before .before .before .before .before .before .before .before .before .before .before .before .before .before .before .carry-out in
+    let e = c .before .before .before .before .before .before .before .before .look2 in
+    let l = c .before .before .before .before .before .before .before .landed in
+    let j = c .before .before .before .before .before .before .kind-of in (
+      c .before .before .before .before .before .before .before .before .before .before .before .before .before .before .before .before .before .before .before .before .before .before .before .before .before .before .before .before .before .before .before .before .before .before .before .before .pre .1,
+      c .before .before .before .before .before .before .before .before .before .before .before .before .before .before .before .before .before .before .before .before .before .before .before .before .before .before .before .before .before .before .before .before .before .before .before .before .pre .2,
+      part-long _ (d .ensures .1),
+      end-allowed (a .rom .now) (a .line .now) (a .book .now) (world (decoded (a .state .now)) (a .ram .now) (a .store .now) (a .image .now)) (world (decoded (d .last .0)) (d .last .1 .1 .0) (d .last .1 .1 .1 .0) (d .last .1 .1 .1 .1 .0)) (f .result) (d .result) (f .ensures) (d .ensures .0) (k .result) (b .result) (e .result) (l .result) (j .result)
+          (factsOf (b .result) (e .result .serial) (k .result) (length (a .ram .now)) (d .result .value)) _ (k .ensures) (b .ensures) (e .ensures) (l .ensures) (j .ensures) refl (part-at _ (d .ensures .1) ∙ sym (taken-at _)),
+    )
 
 same-length : tie.Need-same-length
-same-length c = search needs
+same-length c = c .before .before .before .book .given
 
 same-length-2 : tie.Need-same-length-2
 same-length-2 c = c .before .before .before .before .before .before .before .before .before .before .before .before .before .before .before .before .before .before .before .before .before .before .state .given
@@ -52,18 +68,29 @@ same-length-3 : tie.Need-same-length-3
 same-length-3 c = c .before .before .before .before .before .before .before .before .before .before .before .before .before .before .before .before .before .before .before .before .ram .given
 
 same-length-4 : tie.Need-same-length-4
-same-length-4 c = search needs
+same-length-4 c = c .before .before .before .before .before .before .before .before .before .before .before .before .before .before .before .before .before .before .store .given
 
 same-length-5 : tie.Need-same-length-5
-same-length-5 c = search needs
+same-length-5 c = c .before .before .before .before .before .before .before .before .before .before .before .before .before .before .before .before .image .given
 
 same-length-6 : tie.Need-same-length-6
-same-length-6 c = search needs
+same-length-6 c = c .before .out .given
 
 returns : tie.Need-returns
 returns c =
-    let j = c .before .before .before .before .before .before .before .before .before .before .before in
-    (line-audits _ _ (j .before .before .before .before .before .before .before .before .before .before .before .before .before .before .before .before .before .before .before .before .before .before .before .before .before .before .before .before .before .before .args .book .now) _ _ _ _ (j .before .before .before .before .before .before .before .before .before .before .before .before .before .before .before .before .before .before .before .before .before .frame-of .ensures) (j .before .before .before .before .before .before .before .before .before .before .before .before .carry-out .ensures .0) _ _ _ _ _ _ _ (j .before .before .before .before .before .before .before .before .before .before .before .before .before .before .before .before .before .before .before .asks-of .ensures) (j .before .before .before .before .before .before .before .before .before .before .before .before .before .before .before .before .before .look .ensures) (j .before .before .look2 .ensures) (j .before .landed .ensures) (j .kind-of .ensures) refl (part-at _ (j .before .before .before .before .before .before .before .before .before .before .before .before .carry-out .ensures .1) ∙ sym (taken-at _)) _ _ _ _ _ (c .before .before .before .before .entered-by .ensures), j .before .before .before .before .before .before .before .before .before .before .before .before .carry-out .ensures .1)
+    let a = c .before .before .before .before .before .before .before .before .before .before .before .before .before .before .before .before .before .before .before .before .before .before .before .before .before .before .before .before .before .before .before .before .before .before .before .before .before .before .before .before .before .args in
+    let f = c .before .before .before .before .before .before .before .before .before .before .before .before .before .before .before .before .before .before .before .before .before .before .before .before .before .before .before .before .before .before .before .before .frame-of in
+    let k = c .before .before .before .before .before .before .before .before .before .before .before .before .before .before .before .before .before .before .before .before .before .before .before .before .before .before .before .before .before .before .asks-of in
+    let b = c .before .before .before .before .before .before .before .before .before .before .before .before .before .before .before .before .before .before .before .before .before .before .before .before .before .before .before .before .look in
+    let d = c .before .before .before .before .before .before .before .before .before .before .before .before .before .before .before .before .before .before .before .before .before .before .before .carry-out in
+    let e = c .before .before .before .before .before .before .before .before .before .before .before .before .before .look2 in
+    let l = c .before .before .before .before .before .before .before .before .before .before .before .before .landed in
+    let j = c .before .before .before .before .before .before .before .before .before .before .before .kind-of in
+    let m = c .before .before .before .before .entered-by in (
+      line-audits (a .rom .now) (a .line .now) (a .book .now) (world (decoded (a .state .now)) (a .ram .now) (a .store .now) (a .image .now)) (world (decoded (d .last .0)) (d .last .1 .1 .0) (d .last .1 .1 .1 .0) (d .last .1 .1 .1 .1 .0)) (f .result) (d .result) (f .ensures) (d .ensures .0) (k .result) (b .result) (e .result) (l .result) (j .result)
+          (factsOf (b .result) (e .result .serial) (k .result) (length (a .ram .now)) (d .result .value)) _ (k .ensures) (b .ensures) (e .ensures) (l .ensures) (j .ensures) refl (part-at _ (d .ensures .1) ∙ sym (taken-at _)) (a .out .now) (a .at) (m .last .0) (m .last .1 .1 .1 .1 .1 .1 .1 .1 .1 .1 .1 .0) (m .result) (m .ensures),
+      d .ensures .1,
+    )
 
 pub line-audited-spec : {M : Type 1} → statement M
 line-audited-spec =

@@ -1,5 +1,5 @@
 -- `recorder::step::gulxinett_step` meets its contract: it is judged, and then the line carried out. Assumes nothing.
-use mathlib.Core.Path.{_≡_, ap, _∙_}
+use mathlib.Core.Path.{_≡_, refl, ap, _∙_}
 use mathlib.Core.Bool.{true}
 use Prim.Native.Nat.{_≤_}
 use native.Mathlib.Omega.{arith}
@@ -35,8 +35,12 @@ returns-2 c =
     let k = c .before .before .before .before .before .before .before .before .before in
     let l = k .before .before in
     let e = l .before .before .before .before .before .before in
-    step-done _ _ _ _ _ _ _ _ _ _ _ _ _ _ (λ i. k .slice-known6 .given i .fits) (l .line-done .ensures .1) (l .line-done .ensures .0) (c .pack .ensures)
-    ∙ by-fits (step-refuses _ _ _ _ _ _ _) _ (e .before .before .judge-step .ensures) (e .enum-told .given .1)
+    let a = start e .args in
+    let p = l .line-done in
+    step-done (a .state .now) (a .rom .now) (a .ram .now) (a .store .now) (a .image .now) (a .line .now) (a .out .now)
+    (p .last .0) (p .last .1 .1 .0) (p .last .1 .1 .1 .0) (p .last .1 .1 .1 .1 .0) (p .last .1 .1 .1 .1 .1 .1 .0) (p .result) (c .pack .result)
+    (λ i. k .slice-known6 .given i .fits) (p .ensures .1) (p .ensures .0) (c .pack .ensures)
+    ∙ by-fits (step-refuses (a .state .now) (a .rom .now) (a .ram .now) (a .store .now) (a .image .now) (a .line .now) (a .out .now)) (e .before .before .judge-step .result) (e .before .before .judge-step .ensures) (e .enum-told .given .1)
 
 pub gulxinett-step-spec : {M : Type 1} → statement M
 gulxinett-step-spec =
@@ -45,16 +49,16 @@ gulxinett-step-spec =
     (λ c κs. search needs)
     (λ c. search needs)
     (λ c κs. search needs)
-    (λ c. search needs)
-    (λ c. search needs)
+    (λ c. refl)
+    (λ c. refl)
     returns
     (λ c. search needs)
     line-done-requires
     (λ c. search needs)
     (λ c κs. search needs)
-    (λ c. search needs)
-    (λ c. search needs)
-    (λ c. search needs)
-    (λ c. search needs)
-    (λ c. search needs)
+    (λ c. c .before .before .before .before .before .before .before .before .before .before .before .line-done .kept .0)
+    (λ c. c .before .before .before .before .before .before .before .before .before .before .before .line-done .kept .1 .1 .0)
+    (λ c. c .before .before .before .before .before .before .before .before .before .before .before .line-done .kept .1 .1 .1 .0)
+    (λ c. c .before .before .before .before .before .before .before .before .before .before .before .line-done .kept .1 .1 .1 .1 .0)
+    (λ c. c .before .before .before .before .before .before .before .before .before .before .before .line-done .kept .1 .1 .1 .1 .1 .1 .0)
     returns-2)
