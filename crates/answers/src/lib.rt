@@ -1,14 +1,13 @@
 // An answer as one number: the refusal's number * 2^32 + the value.
 use controller::ReadAnswer;
 use controller::Refusal;
-use controller::TickAnswer;
 use controller::WriteAnswer;
 use recording::record::Recorded;
 use shades::Output;
 ghost use mathlib.Core.Path.{_≡_};
 ghost use mathlib.Core.List.{[]};
 ghost use Prim.Native.Nat.{_≤_};
-ghost use Rattle.controller.specs.Outcome.{numberOf, readNumber, readValue, writeNumber, tickNumber, tickValue};
+ghost use Rattle.controller.specs.Outcome.{numberOf, readNumber, readValue, writeNumber};
 ghost use Rattle.recording.specs.Record.{recorded};
 ghost use Rattle.shades.specs.Shades.{outputNumber, outputValue};
 ghost use Rattle.answers.specs.Packed.{packed};
@@ -44,16 +43,6 @@ pub fn read_answer(a: ReadAnswer) -> u64
     match a {
         ReadAnswer::Byte(b) => pack(0, b as u32),
         ReadAnswer::Refused(why) => refused(why),
-    }
-}
-
-// Cycles of which so many fell while a capture was running, or the refusal.
-pub fn tick_answer(a: TickAnswer) -> u64
-    ensures { λ r. ⌜ r ≡ packed (tickNumber a) (tickValue a) ⌝ }
-{
-    match a {
-        TickAnswer::Ran(n) => pack(0, n.0),
-        TickAnswer::Refused(why) => refused(why),
     }
 }
 

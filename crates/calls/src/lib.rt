@@ -34,9 +34,9 @@ ghost use Rattle.timing.specs.Lent.{ramAllowed};
 ghost use Rattle.timing.specs.Timing.{totalOf};
 ghost use Rattle.controller.specs.State.{canExist};
 ghost use Rattle.controller.specs.Outcome.{verdictNumber, readNumber, readValue, writeNumber, tickNumber, tickValue};
-ghost use Rattle.controller.specs.Table.{noState, before};
+ghost use Rattle.controller.specs.Table.{noState, before, lowest};
 ghost use Rattle.capture.specs.Capture.{running, ticks, from};
-ghost use Rattle.capture.specs.Calls.{ticked, tickMeans};
+ghost use Rattle.capture.specs.Calls.{tickRows, ticked, tickMeans};
 ghost use Rattle.capture.specs.Aside.{after};
 ghost use Rattle.cartridge.specs.Bus.{controlWritten, registerWritten, storeWritten, captureWritten, byteWritten};
 ghost use Rattle.cartridge.specs.Calls.{readMeans, wrote, writeMeans};
@@ -196,8 +196,24 @@ fn leave(state: &mut [u8], passed: Passed)
     state[8] = (e / 16777216 % 256) as u8;
 }
 
+// What a tick was lent, judged.
+pub fn judge_tick(state: &[u8], ram: &[u8], store: &[u8]) -> Verdict
+    requires { ⌜ isRecord (now state) ≡ true ⌝ }
+    ensures { λ r. ⌜ verdictNumber r ≡ lowest (tickRows (decoded (now (state .entry))) (now (ram .entry)) (now (store .entry))) ⌝ }
+{
+    no_state(state, lent_to_tick(ram, store))
+}
+
+// Whether a capture is running: cycles while none is change nothing.
+pub fn runs(state: &[u8]) -> bool
+    requires { ⌜ isRecord (now state) ≡ true ⌝ }
+    ensures { λ r. ⌜ r ≡ running (decoded (now (state .entry))) ⌝ }
+{
+    is_running(state[4] == 1, state[13])
+}
+
 // n cycles of a running capture: how many of them ran.
-fn run(state: &mut [u8], ram: &mut [u8], store: &[u8], n: u32) -> u32
+pub fn run(state: &mut [u8], ram: &mut [u8], store: &[u8], n: u32) -> u32
     requires { ⌜ (isRecord (now state) ≡ true) × (running (decoded (now state)) ≡ true)
         × (decoded (now state) .elapsed .0 < totalOf (decoded (now state) .taken)) × (8192 ≤ length (now ram)) × (length (now store) ≡ 16384) ⌝ }
     ensures { λ r. ⌜ effect 0 r (now (state .exit)) (now (ram .exit)) (now (store .entry))
@@ -215,12 +231,11 @@ pub fn tick(state: &mut [u8], ram: &mut [u8], store: &[u8], n: u32) -> TickAnswe
     ensures { λ r. ⌜ effect (tickNumber r) (tickValue r) (now (state .exit)) (now (ram .exit)) (now (store .entry))
         ≡ inBytes (tickMeans (decoded (now (state .entry))) (now (ram .entry)) (now (store .entry)) n) ⌝ }
 {
-    let verdict = no_state(state, lent_to_tick(ram, store));
+    let verdict = judge_tick(state, ram, store);
     if let Verdict::Refused(why) = verdict {
         return TickAnswer::Refused(why);
     }
-    // Cycles while no capture is running change nothing.
-    if !is_running(state[4] == 1, state[13]) {
+    if !runs(state) {
         return TickAnswer::Ran(Cycles(0));
     }
     TickAnswer::Ran(Cycles(run(state, ram, store, n)))

@@ -7,10 +7,10 @@ use answers::done_answer;
 use answers::pack;
 use answers::read_answer;
 use answers::refused;
-use answers::tick_answer;
 use controller::Controller;
 use controller::Element;
 use controller::Refusal;
+use controller::Verdict;
 use controller::WriteAnswer;
 use desk::choice::Exposure;
 use desk::choice::choose;
@@ -66,7 +66,8 @@ pub extern "C" fn gulxinett_write(
     done_answer(calls::write(state, ram, store, image, address, value))
 }
 
-// Lets cycles pass; it answers how many of them fell while a capture was running.
+// Lets cycles pass; it answers how many of them fell while a capture was running. The steps of `calls::tick` stand here, so that the code of a running
+// capture is called only where one runs.
 #[no_mangle]
 pub extern "C" fn gulxinett_tick(state: &mut [u8], ram: &mut [u8], store: &[u8], cycles: u32) -> u64
     ensures { λ r. ⌜ called r (now (state .exit)) (now (ram .exit)) (now (store .entry))
@@ -75,7 +76,14 @@ pub extern "C" fn gulxinett_tick(state: &mut [u8], ram: &mut [u8], store: &[u8],
     if !is_record(state) {
         return refused(Refusal::State);
     }
-    tick_answer(calls::tick(state, ram, store, cycles))
+    let verdict = calls::judge_tick(state, ram, store);
+    if let Verdict::Refused(why) = verdict {
+        return refused(why);
+    }
+    if !calls::runs(state) {
+        return pack(0, 0);
+    }
+    pack(0, calls::run(state, ram, store, cycles))
 }
 
 // The exposure that a number names; above FFFF none.
