@@ -1,2 +1,2 @@
 -- Laws of a row's shades as bytes.
-pub mod Weights
+pub mod Columns

@@ -1,7 +1,7 @@
 -- Aside: devices of contracts between functions. Nothing here need be believed: every use of it is tied by a proof to the definitions beside it.
 -- A row's shades as bytes, worked out with its columns turned. Assumes nothing.
-use mathlib.Core.List.{List, [], _∷_}
-use Prim.Native.Nat.{ℕ, _+_, _*_, _/_, _%_, _<_, _≤_}
+use mathlib.Core.List.{List}
+use Prim.Native.Nat.{ℕ, _+_, _*_, _/_, _%_}
 use lib.Dec.{eqb}
 use lib.ListN.{getD}
 use Rattle.laws.specs.Pick.{pick}
@@ -23,13 +23,6 @@ byteOf values regs row i = pick (eqb (i % 2) 0) (lowOf values regs (i / 2) row) 
 abbrev pub columnOf : ℕ → ℕ
 columnOf p = 8 * (p % 16) + p / 16
 
--- the weight in its byte of the bit of the column at place p
-abbrev pub eight : List ℕ
-eight = 128 ∷ 64 ∷ 32 ∷ 16 ∷ 8 ∷ 4 ∷ 2 ∷ 1 ∷ []
-
-abbrev pub weightOf : ℕ → ℕ
-weightOf p = getD eight (p / 16) 0
-
 -- the matrix spread over the columns: threshold k of row r of it at 512 k + 128 r + p
 abbrev pub thresholdAt : List ℕ → ℕ → ℕ
 thresholdAt regs i = getD regs (6 + 12 * (i / 128 % 4) + 3 * (i % 128 / 16 % 4) + i / 512) 0
@@ -37,20 +30,14 @@ thresholdAt regs i = getD regs (6 + 12 * (i / 128 % 4) + 3 * (i % 128 / 16 % 4) 
 unfoldable pub spreadOf : List ℕ → List ℕ
 spreadOf regs = listed (thresholdAt regs) 1536
 
--- what place p of a row of values adds to the byte of low bits, and to that of high bits, by the thresholds from `at` on and a weight
-unfoldable pub lowBy : List ℕ → List ℕ → ℕ → List ℕ → ℕ → ℕ
-lowBy values matrix at w p =
-    shadeBy (getD matrix (at + p) 0) (getD matrix (at + p + 512) 0) (getD matrix (at + p + 1024) 0) (getD values p 0) % 2 * getD w p 0
+-- the shade of what stands at place p of a row that is turned, by the thresholds from `at` on
+unfoldable pub turnedShade : List ℕ → List ℕ → ℕ → ℕ → ℕ
+turnedShade values matrix at p =
+    shadeBy (getD matrix (at + p) 0) (getD matrix (at + p + 512) 0) (getD matrix (at + p + 1024) 0) (getD values p 0)
 
-unfoldable pub highBy : List ℕ → List ℕ → ℕ → List ℕ → ℕ → ℕ
-highBy values matrix at w p =
-    shadeBy (getD matrix (at + p) 0) (getD matrix (at + p + 512) 0) (getD matrix (at + p + 1024) 0) (getD values p 0) / 2 * getD w p 0
+-- the low bits of the first b columns of tile t, and the high bits
+abbrev pub lowBits : List ℕ → List ℕ → ℕ → ℕ → ℕ → ℕ
+lowBits values matrix at b t = packed (λ k. turnedShade values matrix at (16 * k + t) % 2) b
 
--- the sum of eight, sixteen places apart
-abbrev pub sumOf : List ℕ → ℕ → ℕ
-sumOf s t =
-    getD s t 0 + getD s (t + 16) 0 + getD s (t + 32) 0 + getD s (t + 48) 0 + getD s (t + 64) 0 + getD s (t + 80) 0 + getD s (t + 96) 0 + getD s (t + 112) 0
-
--- each place has at most its weight
-pub record Weighed (s : List ℕ) : Type 0 where
-  pub light : (k : ℕ) → k < 128 → getD s k 0 ≤ weightOf k
+abbrev pub highBits : List ℕ → List ℕ → ℕ → ℕ → ℕ → ℕ
+highBits values matrix at b t = packed (λ k. turnedShade values matrix at (16 * k + t) / 2) b

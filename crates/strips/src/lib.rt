@@ -1,29 +1,26 @@
 // Step 6 of light to shade by the row: the shades of a row of values as two bits a pixel, eight to a byte. No step turns on a value, so that many
 // columns are done at a time. They are turned for it: first the first of every eight columns, then the second of every eight, and so on, so that
-// what is alike stands side by side, and eight bits are added up where they stand.
+// what is alike stands side by side, and a byte gets its eight bits where it stands.
 use sensor::shade::either;
 ghost use mathlib.Core.Path.{_≡_};
 ghost use Prim.Native.Nat.{_+_, _*_, _/_, _%_, _<_};
 ghost use lib.ListN.{length, getD};
 ghost use Rattle.laws.specs.Lists.{listed};
 ghost use Rattle.sensor.specs.Shade.{shadeBy};
-ghost use Rattle.strips.specs.Aside.{byteOf, columnOf, spreadOf, lowBy, highBy, sumOf, Weighed};
+ghost use Rattle.strips.specs.Aside.{byteOf, columnOf, spreadOf, lowBits, highBits};
 
-// What a value adds to the byte of low bits, and to that of high bits, w the weight of its place. The tests are put so that each is a vector's own.
-fn low_weight(v: u8, l: u8, m: u8, h: u8, w: u8) -> u8
-    ensures { λ r. ⌜ r ≡ shadeBy l m h v % 2 * w ⌝ }
+// The two bits of a value's shade. The tests are put so that each is a vector's own.
+fn low_bit(v: u8, l: u8, m: u8, h: u8) -> u8
+    ensures { λ r. ⌜ r ≡ shadeBy l m h v % 2 ⌝ }
 {
-    either(v < l, w, either(h <= v, 0, either(m <= v, w, 0)))
+    either(v < l, 1, either(h <= v, 0, either(m <= v, 1, 0)))
 }
 
-fn high_weight(v: u8, l: u8, m: u8, h: u8, w: u8) -> u8
-    ensures { λ r. ⌜ r ≡ shadeBy l m h v / 2 * w ⌝ }
+fn high_bit(v: u8, l: u8, m: u8, h: u8) -> u8
+    ensures { λ r. ⌜ r ≡ shadeBy l m h v / 2 ⌝ }
 {
-    either(v < l, w, either(v < m, w, 0))
+    either(v < l, 1, either(v < m, 1, 0))
 }
-
-// The weights of eight columns: the first pixel's bit is the highest.
-const WEIGHTS: [u8; 8] = [128, 64, 32, 16, 8, 4, 2, 1];
 
 // One of the three thresholds of a row of the matrix, for eight columns.
 fn thresholds(regs: &[u8; 54], at: usize) -> [u8; 8]
@@ -85,35 +82,30 @@ pub fn spread(regs: &[u8; 54], out: &mut [u8])
     }
 }
 
-// The weighed bits of a row of values, turned: its thresholds stand from `at` on.
-fn weigh(
+// The bits of one column more, the b-th of each of sixteen tiles, to the bytes of those before it. The columns are turned; their thresholds stand from
+// `at` on. The bytes are changed where they stand, so that they stay in registers from column to column.
+fn add_column(
     values: &[u8; 128],
     matrix: &[u8; 1536],
     at: usize,
-    w: &[u8; 128],
-    low: &mut [u8],
-    high: &mut [u8],
+    b: usize,
+    low: &mut [u8; 16],
+    high: &mut [u8; 16],
 )
-    requires { ⌜ (at < 385) × (length (now low) ≡ 128) × (length (now high) ≡ 128) ⌝ }
-    ensures { λ _. ⌜ (now (low .exit) ≡ listed (lowBy (now (values .entry)) (now (matrix .entry)) at (now (w .entry))) 128)
-        × (now (high .exit) ≡ listed (highBy (now (values .entry)) (now (matrix .entry)) at (now (w .entry))) 128) ⌝ }
+    requires { ⌜ (at < 385) × (b < 8) ⌝ }
+    requires { ⌜ (now low ≡ listed (lowBits (now values) (now matrix) at b) 16) × (now high ≡ listed (highBits (now values) (now matrix) at b) 16) ⌝ }
+    ensures { λ _. ⌜ (now (low .exit) ≡ listed (lowBits (now (values .entry)) (now (matrix .entry)) at (b + 1)) 16)
+        × (now (high .exit) ≡ listed (highBits (now (values .entry)) (now (matrix .entry)) at (b + 1)) 16) ⌝ }
 {
-    for x in 0..128 {
-        let v = values[x];
-        let l = matrix[at + x];
-        let m = matrix[at + x + 512];
-        let h = matrix[at + x + 1024];
-        low[x] = low_weight(v, l, m, h, w[x]);
-        high[x] = high_weight(v, l, m, h, w[x]);
+    for t in 0..16 {
+        let p = 16 * b + t;
+        let v = values[p];
+        let l = matrix[at + p];
+        let m = matrix[at + p + 512];
+        let h = matrix[at + p + 1024];
+        low[t] = low[t] * 2 + low_bit(v, l, m, h);
+        high[t] = high[t] * 2 + high_bit(v, l, m, h);
     }
-}
-
-// The sum of eight weighed bits, those of columns 8 * t to 8 * t + 7.
-fn sum_of(s: &[u8; 128], t: usize) -> u8
-    requires { ⌜ (t < 16) × Weighed (now s) ⌝ }
-    ensures { λ r. ⌜ r ≡ sumOf (now (s .entry)) t ⌝ }
-{
-    s[t] + s[t + 16] + s[t + 32] + s[t + 48] + s[t + 64] + s[t + 80] + s[t + 96] + s[t + 112]
 }
 
 // The shades of a row as 16 pairs of bytes, eight pixels each: their low bits, and their high bits. `matrix` is that of `regs`, spread.
@@ -127,13 +119,15 @@ pub fn shade_row(
     requires { ⌜ (now matrix ≡ spreadOf (now regs)) × (length (now pairs) ≡ 32) ⌝ }
     ensures { λ _. ⌜ now (pairs .exit) ≡ listed (byteOf (now (values .entry)) (now (regs .entry)) row) 32 ⌝ }
 {
-    let w = repeat(WEIGHTS);
     let turned = turn(values);
-    let mut lows = [0u8; 128];
-    let mut highs = [0u8; 128];
-    weigh(&turned, matrix, 128 * (row % 4), &w, &mut lows, &mut highs);
+    let at = 128 * (row % 4);
+    let mut low = [0u8; 16];
+    let mut high = [0u8; 16];
+    for b in 0..8 {
+        add_column(&turned, matrix, at, b, &mut low, &mut high);
+    }
     for t in 0..16 {
-        pairs[2 * t] = sum_of(&lows, t);
-        pairs[2 * t + 1] = sum_of(&highs, t);
+        pairs[2 * t] = low[t];
+        pairs[2 * t + 1] = high[t];
     }
 }

@@ -1,50 +1,46 @@
--- `strips::shade_row` meets its contract: eight weighed bits add up to the byte. Assumes nothing.
-use mathlib.Core.Path.{_≡_, _∙_}
+-- `strips::shade_row` meets its contract: the bits of eight columns are the byte. Assumes nothing.
+use mathlib.Core.Path.{_≡_, refl, _∙_}
 use Prim.Native.Nat.{_+_, _-_, _*_, _<_, _≤_}
 use native.Mathlib.Omega.{arith}
 use borrow.Author.Needs.{needs}
 use lib.ListN.{length-set}
+use Rattle.laws.specs.Lists.{listed, packed}
 use Rattle.laws.proofs.Filled.{Filled, filled-none, filled-more, filled-to, filled-end}
-use Rattle.strips.specs.Aside.{byteOf}
-use Rattle.strips.proofs.Weights.{low-weighed, high-weighed, low-byte, high-byte}
+use Rattle.strips.specs.Aside.{byteOf, lowBits, highBits}
+use Rattle.strips.proofs.Columns.{low-put, high-put}
 use Rattle.strips.proofs.shade_row.Statement.{statement}
 use Rattle.strips.proofs.shade_row.Tie as tie
 
 abbrev Inv-loop : tie.InvT-loop
-Inv-loop values matrix regs row pairs₀ lows highs t₀ pairs t = (t ≤ 16) × Filled (byteOf values regs row) 32 (2 * t) pairs
+Inv-loop values matrix regs row pairs turned at low₀ high₀ b₀ low high b =
+    (b ≤ 8) × (low ≡ listed (lowBits turned matrix at b) 16) × (high ≡ listed (highBits turned matrix at b) 16)
 
 abbrev μ-loop : tie.MeasureT-loop
-μ-loop values matrix regs row pairs₀ lows highs t₀ pairs t = 16 - t
+μ-loop values matrix regs row pairs turned at low₀ high₀ b₀ low high b = 8 - b
 
-sum-of-requires : tie.Need-sum-of-requires Inv-loop μ-loop
-sum-of-requires c κs =
-    let n = c .before .before .before .before .before in
-    let u = n .before .before .before .before .before in
-    let w = u .before in
-    let s = w .before .before in
-    (omega arith, low-weighed (s .args .values .now) (s .args .regs .now) (s .args .row) (u .turn .ensures) (s .pre .0) (w .repeat .ensures) (n .weigh .ensures .0))
+abbrev Inv-loop2 : tie.InvT-loop2
+Inv-loop2 values matrix regs row pairs₀ at low high t₀ pairs t = (t ≤ 16) × Filled (byteOf values regs row) 32 (2 * t) pairs
 
-sum-of-requires-2 : tie.Need-sum-of-requires-2 Inv-loop μ-loop
-sum-of-requires-2 c κs =
-    let n = c .before .before .before .before .before .before .before in
-    let u = n .before .before .before .before .before in
-    let w = u .before in
-    let s = w .before .before in
-    (omega arith, high-weighed (s .args .values .now) (s .args .regs .now) (s .args .row) (u .turn .ensures) (s .pre .0) (w .repeat .ensures) (n .weigh .ensures .1))
+abbrev μ-loop2 : tie.MeasureT-loop2
+μ-loop2 values matrix regs row pairs₀ at low high t₀ pairs t = 16 - t
 
-loop-again : tie.Need-loop-again Inv-loop μ-loop
-loop-again c =
-    let l = c .before .before .before .before .before .loop in
-    let inside : l .t < 16 = omega arith in
-    let n = c .before .before .before .before .before .before .before .before in
-    let u = n .before .before .before .before .before in
-    let w = u .before in
-    let s = w .before .before in
+none : tie.Need-loop-holds Inv-loop μ-loop Inv-loop2 μ-loop2
+unfolding listed packed
+none c = (omega arith, refl, refl)
+
+again2 : tie.Need-loop2-again Inv-loop μ-loop Inv-loop2 μ-loop2
+again2 c =
+    let r = c .before .loop2 in
+    let l = c .before .before .before .loop in
+    let made = c .before .before .before .before .turn .ensures in
+    let s = c .before .before .before .before .before .before in
     let a = s .args in
-    let q : 2 * l .t + 1 + 1 ≡ 2 * (l .t + 1) = omega arith in
-    let low = c .before .before .sum-of .ensures ∙ low-byte (a .values .now) (a .regs .now) (a .row) (u .turn .ensures) (s .pre .0) (w .repeat .ensures) (n .weigh .ensures .0) (l .t) inside in
-    let high = c .sum-of2 .ensures ∙ high-byte (a .values .now) (a .regs .now) (a .row) (u .turn .ensures) (s .pre .0) (w .repeat .ensures) (n .weigh .ensures .1) (l .t) inside in
-    (omega arith, filled-to _ (filled-more _ _ (filled-more _ _ (l .inv .1) (omega arith) low) (omega arith) high) q)
+    let h : r .t < 16 = omega arith in
+    let e : l .b ≡ 8 = omega arith in
+    let q : 2 * r .t + 1 + 1 ≡ 2 * (r .t + 1) = omega arith in
+    let low = low-put (a .values .now) (a .regs .now) (a .row) made (s .pre .0) e (l .inv .1) h in
+    let high = high-put (a .values .now) (a .regs .now) (a .row) made (s .pre .0) e (l .inv .2) h in
+    (omega arith, filled-to _ (filled-more _ _ (filled-more _ _ (r .inv .1) (omega arith) low) (omega arith) high) q)
 
 pub shade-row-spec : {M : Type 1} → statement M
 shade-row-spec =
@@ -52,22 +48,25 @@ shade-row-spec =
     (tie.spec
     Inv-loop
     μ-loop
-    (λ c κs. search needs)
+    Inv-loop2
+    μ-loop2
     (λ c κs. search needs)
     (λ c. omega arith)
-    (λ c. search needs)
-    (λ c. search needs)
-    (λ c κs. search needs)
+    none
+    (λ c κs. let l = c .before .before .before .before .loop in ((omega arith, omega arith), (l .inv .1, l .inv .2)))
+    (λ c. omega arith)
+    (λ c. omega arith)
+    (λ c. (omega arith, c .add-column .ensures .0, c .add-column .ensures .1))
     (λ c. (omega arith, filled-none _ _ (omega arith)))
-    sum-of-requires
     (λ c. omega arith)
     (λ c. omega arith)
-    sum-of-requires-2
+    (λ c. omega arith)
+    (λ c. omega arith)
     (λ c. omega arith)
     (λ c. omega arith)
     (λ c. simp length-set (omega arith))
     (λ c. omega arith)
     (λ c. omega arith)
-    loop-again
+    again2
     (λ c. omega arith)
-    (λ c. let l = c .before .loop in filled-end _ _ (l .inv .1) (omega arith)))
+    (λ c. let r = c .before .loop2 in filled-end _ _ (r .inv .1) (omega arith)))

@@ -5,7 +5,7 @@ use native.Mathlib.Omega.{arith}
 use borrow.Author.Needs.{needs}
 use Rattle.laws.proofs.Filled.{Filled, filled-none, filled-more, filled-to, filled-end}
 use Rattle.strips.specs.Aside.{thresholdAt, spreadOf}
-use Rattle.strips.proofs.Weights.{spread-at}
+use Rattle.strips.proofs.Columns.{spread-at}
 use Rattle.strips.proofs.spread.Statement.{statement}
 use Rattle.strips.proofs.spread.Tie as tie
 

@@ -1,6 +1,6 @@
 -- `strips::turn` meets its contract: four steps turn a row. Assumes nothing.
 use borrow.Author.Needs.{needs}
-use Rattle.strips.proofs.Weights.{turned}
+use Rattle.strips.proofs.Columns.{turned}
 use Rattle.strips.proofs.turn.Statement.{statement}
 use Rattle.strips.proofs.turn.Tie as tie
 
