@@ -1,8 +1,8 @@
 -- A row's shades as bytes: the bits of eight columns, one after another. Assumes nothing.
-use mathlib.Core.Path.{_≡_, refl, ap, _∙_}
+use mathlib.Core.Path.{_≡_, refl, ap, ap₂, _∙_}
 use mathlib.Core.Bool.{Bool, true, false}
 use mathlib.Core.List.{List}
-use Prim.Native.Nat.{ℕ, _+_, _*_, _/_, _%_, _<_, _≤_}
+use Prim.Native.Nat.{ℕ, zero, suc, _+_, _*_, _/_, _%_, _<_, _≤_}
 use native.Mathlib.Nat.{add-zero}
 use native.Mathlib.Omega.{arith}
 use lib.Dec.{ltb, leb, lit<}
@@ -12,29 +12,29 @@ use lib.Seq.{getD-set-other}
 use Rattle.laws.specs.Pick.{pick}
 use Rattle.laws.specs.Lists.{listed, packed}
 use Rattle.laws.proofs.Order.{split}
-use Rattle.laws.proofs.Packed.{packed-next, packed-ext, packed-room, listed-length, listed-at, listed-ext}
+use Rattle.laws.proofs.Packed.{packed-ext, listed-length, listed-at, listed-ext}
 use Rattle.laws.proofs.Filled.{Filled, filled-all, filled-more}
 use Rattle.sensor.specs.Shade.{shadeBy, element, shadeOf}
-use Rattle.strips.specs.Aside.{columnOf, thresholdAt, spreadOf, turnedShade, lowBits, highBits, lowOf, highOf, byteOf}
+use Rattle.strips.specs.Aside.{columnOf, thresholdAt, spreadOf, turnedShade, placeOf, lowBits, highBits, lowOf, highOf}
 
 -- ---- one column: the tests that a shade is made of, made of its bits
 
-pub low-picked : (a : Bool) (m h v : ℕ) → pick a 1 (pick (leb h v) 0 (pick (leb m v) 1 0)) ≡ pick {X = ℕ} a 3 (pick (ltb v m) 2 (pick (ltb v h) 1 0)) % 2
-low-picked true m h v = refl
-low-picked false m h v =
+pub low-picked : (a : Bool) (m h v w : ℕ) → pick a w (pick (leb h v) 0 (pick (leb m v) w 0)) ≡ pick {X = ℕ} a 3 (pick (ltb v m) 2 (pick (ltb v h) 1 0)) % 2 * w
+low-picked true m h v w = omega arith
+low-picked false m h v w =
     split v h
     (λ below. split v m
-    (λ dark. simp (lt-leb h v below, lt-leb m v dark, lt-ltb v m dark))
-    (λ light. simp (lt-leb h v below, le-leb m v light, le-ltb v m light, lt-ltb v h below)))
+    (λ dark. simp (lt-leb h v below, lt-leb m v dark, lt-ltb v m dark) (omega arith))
+    (λ light. simp (lt-leb h v below, le-leb m v light, le-ltb v m light, lt-ltb v h below) (omega arith)))
     (λ above. split v m
-    (λ dark. simp (le-leb h v above, lt-ltb v m dark))
-    (λ light. simp (le-leb h v above, le-ltb v m light, le-ltb v h above)))
+    (λ dark. simp (le-leb h v above, lt-ltb v m dark) (omega arith))
+    (λ light. simp (le-leb h v above, le-ltb v m light, le-ltb v h above) (omega arith)))
 
-pub high-picked : (a b c : Bool) → pick a 1 (pick b 1 0) ≡ pick {X = ℕ} a 3 (pick b 2 (pick c 1 0)) / 2
-high-picked true b c = refl
-high-picked false true c = refl
-high-picked false false true = refl
-high-picked false false false = refl
+pub high-picked : (a b c : Bool) (w : ℕ) → pick a w (pick b w 0) ≡ pick {X = ℕ} a 3 (pick b 2 (pick c 1 0)) / 2 * w
+high-picked true b c w = omega arith
+high-picked false true c w = omega arith
+high-picked false false true w = omega arith
+high-picked false false false w = omega arith
 
 -- a high bit is a bit
 high-two : (a b c : Bool) → pick {X = ℕ} a 3 (pick b 2 (pick c 1 0)) / 2 < 2
@@ -65,36 +65,97 @@ moved-more f g {size} {n} {out} v r h e = record {
 pub moved-end : (f g : ℕ → ℕ) {n x : ℕ} {out : List ℕ} → Moved f g n x out → x ≡ n → out ≡ listed g n
 moved-end f g r e = filled-all g (rw e at (r .done))
 
-module _ (values matrix : List ℕ) (at b : ℕ) (room : b < 8) where
-  -- the shade of column b of tile t
-  abbrev shade-of : ℕ → ℕ → ℕ
-  shade-of t k = turnedShade values matrix at (16 * k + t)
+-- what is so of each of eight bits
+eight : (P : ℕ → Type 0) → P 0 → P 1 → P 2 → P 3 → P 4 → P 5 → P 6 → P 7 → (b : ℕ) → b < 8 → P b
+eight P a b c d e f g h zero l = a
+eight P a b c d e f g h (suc zero) l = b
+eight P a b c d e f g h (suc (suc zero)) l = c
+eight P a b c d e f g h (suc (suc (suc zero))) l = d
+eight P a b c d e f g h (suc (suc (suc (suc zero)))) l = e
+eight P a b c d e f g h (suc (suc (suc (suc (suc zero))))) l = f
+eight P a b c d e f g h (suc (suc (suc (suc (suc (suc zero)))))) l = g
+eight P a b c d e f g h (suc (suc (suc (suc (suc (suc (suc zero))))))) l = h
+eight P a b c d e f g h (suc (suc (suc (suc (suc (suc (suc (suc n)))))))) l = absurd (omega arith)
 
-  shade-two : (p : ℕ) → turnedShade values matrix at p / 2 < 2
+-- the next weight is half of it
+pub next-weight : (b : ℕ) → b < 8 → placeOf (b + 1) / 2 ≡ placeOf (b + 1 + 1)
+next-weight = eight (λ b. placeOf (b + 1) / 2 ≡ placeOf (b + 1 + 1)) refl refl refl refl refl refl refl refl
+
+module _ (f : ℕ → ℕ) (two : (k : ℕ) → f k < 2) where
+  abbrev bits : ℕ → ℕ
+  bits b = packed f b * placeOf b
+
+  -- a byte has room for one bit more
+  bits-room : (b : ℕ) → b < 8 → bits b + placeOf (b + 1) < 256
+  unfolding packed
+  bits-room =
+      eight (λ b. bits b + placeOf (b + 1) < 256)
+      (omega arith)
+      (omega (arith, two 0))
+      (omega (arith, two 0, two 1))
+      (omega (arith, two 0, two 1, two 2))
+      (omega (arith, two 0, two 1, two 2, two 3))
+      (omega (arith, two 0, two 1, two 2, two 3, two 4))
+      (omega (arith, two 0, two 1, two 2, two 3, two 4, two 5))
+      (omega (arith, two 0, two 1, two 2, two 3, two 4, two 5, two 6))
+
+  -- and gets it
+  bits-next : (b : ℕ) → b < 8 → bits b + f b * placeOf (b + 1) ≡ bits (b + 1)
+  unfolding packed
+  bits-next =
+      eight (λ b. bits b + f b * placeOf (b + 1) ≡ bits (b + 1)) (omega arith) (omega arith) (omega arith) (omega arith) (omega arith) (omega arith) (omega arith) (omega arith)
+
+  -- a bit times its weight is at most the weight
+  bit-light : (k w : ℕ) → f k * w ≤ w
+  bit-light k w = split (f k) 1 (λ l. let e : f k ≡ 0 = omega arith in rw e (omega arith)) (λ l. let e : f k ≡ 1 = omega (arith, two k) in rw e (omega arith))
+
+-- bits f of the columns of each tile
+module _ (f : ℕ → ℕ → ℕ) (two : (t k : ℕ) → f t k < 2) {b w : ℕ} (h : b < 8) (weight : w ≡ placeOf (b + 1)) where
+  abbrev Next : ℕ → List ℕ → Type 0
+  Next = Moved (λ t. packed (f t) b * placeOf b) (λ t. packed (f t) (b + 1) * placeOf (b + 1)) 16
+
+  module _ {was : List ℕ} {t v : ℕ} (r : Next t was) (inside : t < 16) (e : v ≡ f t b * w) where
+    column-room : getD was t 0 + v < 256
+    column-room = omega (arith, r .left t (omega arith) inside, bits-room (f t) (two t) b h, rw weight at e, bit-light (f t) (two t) b (placeOf (b + 1)))
+
+    column-next : Next (t + 1) (set was t (getD was t 0 + v))
+    column-next = moved-more _ _ _ r inside (ap₂ (λ (x y : ℕ). x + y) (r .left t (omega arith) inside) (rw weight at e) ∙ bits-next (f t) (two t) b h)
+
+-- no bits, and all eight
+pub none : (f : ℕ → ℕ → ℕ) {bytes : List ℕ} → bytes ≡ listed (λ _. 0) 16 → bytes ≡ listed (λ t. packed (f t) 0 * placeOf 0) 16
+unfolding packed
+none f e = e
+
+all : (f : ℕ → ℕ → ℕ) {b : ℕ} {bytes : List ℕ} → b ≡ 8 → bytes ≡ listed (λ t. packed (f t) b * placeOf b) 16 → bytes ≡ listed (λ t. packed (f t) 8) 16
+all f e m = rw e at m ∙ listed-ext _ _ 16 (λ t _. omega arith)
+
+module _ (values matrix : List ℕ) (at : ℕ) where
+  shade-two : (t k : ℕ) → turnedShade values matrix at (16 * k + t) / 2 < 2
   unfolding turnedShade
-  shade-two p =
+  shade-two t k =
+      let p = 16 * k + t in
       let v = getD values p 0 in
       high-two (ltb v (getD matrix (at + p) 0)) (ltb v (getD matrix (at + p + 512) 0)) (ltb v (getD matrix (at + p + 1024) 0))
 
-  -- a byte has room for one bit more
-  module _ {was : List ℕ} {t : ℕ} (h : t < 16) where
-    pub low-room : Moved (lowBits values matrix at b) (lowBits values matrix at (b + 1)) 16 t was → getD was t 0 < 128
-    low-room r = rw (r .left t (omega arith) h) (packed-room (λ k. shade-of t k % 2) (λ k. omega arith) b room)
+  -- the tiles before t have the bits of column b, and the others those before it
+  abbrev pub Low : ℕ → ℕ → List ℕ → Type 0
+  Low b = Moved (lowBits values matrix at b) (lowBits values matrix at (b + 1)) 16
 
-    pub high-room : Moved (highBits values matrix at b) (highBits values matrix at (b + 1)) 16 t was → getD was t 0 < 128
-    high-room r = rw (r .left t (omega arith) h) (packed-room (λ k. shade-of t k / 2) (λ k. shade-two (16 * k + t)) b room)
+  abbrev pub High : ℕ → ℕ → List ℕ → Type 0
+  High b = Moved (highBits values matrix at b) (highBits values matrix at (b + 1)) 16
 
-    -- and gets it
-    pub low-next : {v : ℕ} → Moved (lowBits values matrix at b) (lowBits values matrix at (b + 1)) 16 t was → v ≡ shade-of t b % 2
-        → Moved (lowBits values matrix at b) (lowBits values matrix at (b + 1)) 16 (t + 1) (set was t (getD was t 0 * 2 + v))
-    low-next r e = moved-more _ _ _ r h (packed-next (λ k. shade-of t k % 2) b _ _ (r .left t (omega arith) h) e)
+  module _ {b w : ℕ} (h : b < 8) (weight : w ≡ placeOf (b + 1)) {was : List ℕ} {t v : ℕ} where
+    pub low-room : Low b t was → t < 16 → v ≡ turnedShade values matrix at (16 * b + t) % 2 * w → getD was t 0 + v < 256
+    low-room = column-room (λ t k. turnedShade values matrix at (16 * k + t) % 2) (λ t k. omega arith) h weight
 
-    pub high-next : {v : ℕ} → Moved (highBits values matrix at b) (highBits values matrix at (b + 1)) 16 t was → v ≡ shade-of t b / 2
-        → Moved (highBits values matrix at b) (highBits values matrix at (b + 1)) 16 (t + 1) (set was t (getD was t 0 * 2 + v))
-    high-next r e = moved-more _ _ _ r h (packed-next (λ k. shade-of t k / 2) b _ _ (r .left t (omega arith) h) e)
+    pub low-next : Low b t was → t < 16 → v ≡ turnedShade values matrix at (16 * b + t) % 2 * w → Low b (t + 1) (set was t (getD was t 0 + v))
+    low-next = column-next (λ t k. turnedShade values matrix at (16 * k + t) % 2) (λ t k. omega arith) h weight
 
-  pub high-small : {v : ℕ} (t : ℕ) → v ≡ shade-of t b / 2 → v < 2
-  high-small t e = rw e (shade-two (16 * b + t))
+    pub high-room : High b t was → t < 16 → v ≡ turnedShade values matrix at (16 * b + t) / 2 * w → getD was t 0 + v < 256
+    high-room = column-room (λ t k. turnedShade values matrix at (16 * k + t) / 2) shade-two h weight
+
+    pub high-next : High b t was → t < 16 → v ≡ turnedShade values matrix at (16 * b + t) / 2 * w → High b (t + 1) (set was t (getD was t 0 + v))
+    high-next = column-next (λ t k. turnedShade values matrix at (16 * k + t) / 2) shade-two h weight
 
 -- ---- the matrix spread: a row of thresholds of it, from eight columns to all
 
@@ -183,24 +244,14 @@ module _ (values regs : List ℕ) (row : ℕ) where
     shade : (t b : ℕ) → t < 16 → b < 8 → turnedShade line matrix at (16 * b + t) ≡ shadeOf regs (8 * t + b) row (getD values (8 * t + b) 0)
     shade t b h l = same (16 * b + t) (omega arith) ∙ ap (λ (x : ℕ). shadeOf regs x row (getD values x 0)) (column t b h)
 
-    low-byte : (t : ℕ) → t < 16 → lowBits line matrix at 8 t ≡ byteOf values regs row (2 * t)
-    unfolding byteOf lowOf
-    low-byte t h =
-        let a : 2 * t % 2 ≡ 0 = omega arith in
-        let b : 2 * t / 2 ≡ t = omega arith in
-        rw (a, b) (packed-ext _ _ 8 (λ b l. ap (λ (s : ℕ). s % 2) (shade t b h l)))
+    pub low-all : {b : ℕ} {bytes : List ℕ} → b ≡ 8 → bytes ≡ listed (lowBits line matrix at b) 16 → bytes ≡ listed (lowOf values regs row) 16
+    unfolding lowOf
+    low-all e m =
+        all (λ t k. turnedShade line matrix at (16 * k + t) % 2) e m
+        ∙ listed-ext _ _ 16 (λ t h. packed-ext _ _ 8 (λ b l. ap (λ (s : ℕ). s % 2) (shade t b h l)))
 
-    high-byte : (t : ℕ) → t < 16 → highBits line matrix at 8 t ≡ byteOf values regs row (2 * t + 1)
-    unfolding byteOf highOf
-    high-byte t h =
-        let a : (2 * t + 1) % 2 ≡ 1 = omega arith in
-        let b : (2 * t + 1) / 2 ≡ t = omega arith in
-        rw (a, b) (packed-ext _ _ 8 (λ b l. ap (λ (s : ℕ). s / 2) (shade t b h l)))
-
-    -- so what is put for a tile is its two bytes
-    module _ {b t : ℕ} {bytes : List ℕ} (all : b ≡ 8) where
-      pub low-put : bytes ≡ listed (lowBits line matrix at b) 16 → t < 16 → getD bytes t 0 ≡ byteOf values regs row (2 * t)
-      low-put e h = rw (e, all) (listed-at (lowBits line matrix at 8) 16 t h ∙ low-byte t h)
-
-      pub high-put : bytes ≡ listed (highBits line matrix at b) 16 → t < 16 → getD bytes t 0 ≡ byteOf values regs row (2 * t + 1)
-      high-put e h = rw (e, all) (listed-at (highBits line matrix at 8) 16 t h ∙ high-byte t h)
+    pub high-all : {b : ℕ} {bytes : List ℕ} → b ≡ 8 → bytes ≡ listed (highBits line matrix at b) 16 → bytes ≡ listed (highOf values regs row) 16
+    unfolding highOf
+    high-all e m =
+        all (λ t k. turnedShade line matrix at (16 * k + t) / 2) e m
+        ∙ listed-ext _ _ 16 (λ t h. packed-ext _ _ 8 (λ b l. ap (λ (s : ℕ). s / 2) (shade t b h l)))

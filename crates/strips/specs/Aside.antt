@@ -1,23 +1,17 @@
 -- Aside: devices of contracts between functions. Nothing here need be believed: every use of it is tied by a proof to the definitions beside it.
 -- A row's shades as bytes, worked out with its columns turned. Assumes nothing.
-use mathlib.Core.List.{List}
+use mathlib.Core.List.{List, [], _∷_}
 use Prim.Native.Nat.{ℕ, _+_, _*_, _/_, _%_}
-use lib.Dec.{eqb}
 use lib.ListN.{getD}
-use Rattle.laws.specs.Pick.{pick}
 use Rattle.laws.specs.Lists.{listed, packed}
 use Rattle.sensor.specs.Shade.{shadeBy, shadeOf}
 
 -- eight pixels of a row of values, from column 8 t on, as two bytes: the low bits, and the high bits
 unfoldable pub lowOf : List ℕ → List ℕ → ℕ → ℕ → ℕ
-lowOf values regs t row = packed (λ b. shadeOf regs (8 * t + b) row (getD values (8 * t + b) 0) % 2) 8
+lowOf values regs row t = packed (λ b. shadeOf regs (8 * t + b) row (getD values (8 * t + b) 0) % 2) 8
 
 unfoldable pub highOf : List ℕ → List ℕ → ℕ → ℕ → ℕ
-highOf values regs t row = packed (λ b. shadeOf regs (8 * t + b) row (getD values (8 * t + b) 0) / 2) 8
-
--- byte i of such pairs, one after another
-unfoldable pub byteOf : List ℕ → List ℕ → ℕ → ℕ → ℕ
-byteOf values regs row i = pick (eqb (i % 2) 0) (lowOf values regs (i / 2) row) (highOf values regs (i / 2) row)
+highOf values regs row t = packed (λ b. shadeOf regs (8 * t + b) row (getD values (8 * t + b) 0) / 2) 8
 
 -- which column stands at place p of a row that is turned
 abbrev pub columnOf : ℕ → ℕ
@@ -35,9 +29,13 @@ unfoldable pub turnedShade : List ℕ → List ℕ → ℕ → ℕ → ℕ
 turnedShade values matrix at p =
     shadeBy (getD matrix (at + p) 0) (getD matrix (at + p + 512) 0) (getD matrix (at + p + 1024) 0) (getD values p 0)
 
--- the low bits of the first b columns of tile t, and the high bits
+-- the weight in a byte of the last of its first b bits
+abbrev pub placeOf : ℕ → ℕ
+placeOf b = getD (256 ∷ 128 ∷ 64 ∷ 32 ∷ 16 ∷ 8 ∷ 4 ∷ 2 ∷ 1 ∷ []) b 0
+
+-- the low bits of the first b columns of tile t where they stand in its byte, and the high bits
 abbrev pub lowBits : List ℕ → List ℕ → ℕ → ℕ → ℕ → ℕ
-lowBits values matrix at b t = packed (λ k. turnedShade values matrix at (16 * k + t) % 2) b
+lowBits values matrix at b t = packed (λ k. turnedShade values matrix at (16 * k + t) % 2) b * placeOf b
 
 abbrev pub highBits : List ℕ → List ℕ → ℕ → ℕ → ℕ → ℕ
-highBits values matrix at b t = packed (λ k. turnedShade values matrix at (16 * k + t) / 2) b
+highBits values matrix at b t = packed (λ k. turnedShade values matrix at (16 * k + t) / 2) b * placeOf b

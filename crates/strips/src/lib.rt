@@ -7,19 +7,19 @@ ghost use Prim.Native.Nat.{_+_, _*_, _/_, _%_, _<_};
 ghost use lib.ListN.{length, getD};
 ghost use Rattle.laws.specs.Lists.{listed};
 ghost use Rattle.sensor.specs.Shade.{shadeBy};
-ghost use Rattle.strips.specs.Aside.{byteOf, columnOf, spreadOf, lowBits, highBits};
+ghost use Rattle.strips.specs.Aside.{lowOf, highOf, columnOf, spreadOf, placeOf, lowBits, highBits};
 
-// The two bits of a value's shade. The tests are put so that each is a vector's own.
-fn low_bit(v: u8, l: u8, m: u8, h: u8) -> u8
-    ensures { λ r. ⌜ r ≡ shadeBy l m h v % 2 ⌝ }
+// What a value adds to the byte of low bits, and to that of high bits, w the weight of its place. The tests are put so that each is a vector's own.
+fn low_weight(v: u8, l: u8, m: u8, h: u8, w: u8) -> u8
+    ensures { λ r. ⌜ r ≡ shadeBy l m h v % 2 * w ⌝ }
 {
-    either(v < l, 1, either(h <= v, 0, either(m <= v, 1, 0)))
+    either(v < l, w, either(h <= v, 0, either(m <= v, w, 0)))
 }
 
-fn high_bit(v: u8, l: u8, m: u8, h: u8) -> u8
-    ensures { λ r. ⌜ r ≡ shadeBy l m h v / 2 ⌝ }
+fn high_weight(v: u8, l: u8, m: u8, h: u8, w: u8) -> u8
+    ensures { λ r. ⌜ r ≡ shadeBy l m h v / 2 * w ⌝ }
 {
-    either(v < l, 1, either(v < m, 1, 0))
+    either(v < l, w, either(v < m, w, 0))
 }
 
 // One of the three thresholds of a row of the matrix, for eight columns.
@@ -82,17 +82,18 @@ pub fn spread(regs: &[u8; 54], out: &mut [u8])
     }
 }
 
-// The bits of one column more, the b-th of each of sixteen tiles, to the bytes of those before it. The columns are turned; their thresholds stand from
-// `at` on. The bytes are changed where they stand, so that they stay in registers from column to column.
+// Adds the bits of one column more, the b-th of each of sixteen tiles, to the bytes of those before it: w is their weight. The columns are turned; their
+// thresholds stand from `at` on. The bytes are changed where they stand, so that they stay in registers from column to column.
 fn add_column(
     values: &[u8; 128],
     matrix: &[u8; 1536],
     at: usize,
     b: usize,
+    w: u8,
     low: &mut [u8; 16],
     high: &mut [u8; 16],
 )
-    requires { ⌜ (at < 385) × (b < 8) ⌝ }
+    requires { ⌜ (at < 385) × (b < 8) × (w ≡ placeOf (b + 1)) ⌝ }
     requires { ⌜ (now low ≡ listed (lowBits (now values) (now matrix) at b) 16) × (now high ≡ listed (highBits (now values) (now matrix) at b) 16) ⌝ }
     ensures { λ _. ⌜ (now (low .exit) ≡ listed (lowBits (now (values .entry)) (now (matrix .entry)) at (b + 1)) 16)
         × (now (high .exit) ≡ listed (highBits (now (values .entry)) (now (matrix .entry)) at (b + 1)) 16) ⌝ }
@@ -103,31 +104,29 @@ fn add_column(
         let l = matrix[at + p];
         let m = matrix[at + p + 512];
         let h = matrix[at + p + 1024];
-        low[t] = low[t] * 2 + low_bit(v, l, m, h);
-        high[t] = high[t] * 2 + high_bit(v, l, m, h);
+        low[t] = low[t] + low_weight(v, l, m, h, w);
+        high[t] = high[t] + high_weight(v, l, m, h, w);
     }
 }
 
-// The shades of a row as 16 pairs of bytes, eight pixels each: their low bits, and their high bits. `matrix` is that of `regs`, spread.
+// The shades of a row, a byte of low bits and one of high bits for each of its sixteen tiles, into what is zero before. `matrix` is that of `regs`, spread.
 pub fn shade_row(
     values: &[u8; 128],
     matrix: &[u8; 1536],
     regs: &[u8; 54],
     row: usize,
-    pairs: &mut [u8],
+    low: &mut [u8; 16],
+    high: &mut [u8; 16],
 )
-    requires { ⌜ (now matrix ≡ spreadOf (now regs)) × (length (now pairs) ≡ 32) ⌝ }
-    ensures { λ _. ⌜ now (pairs .exit) ≡ listed (byteOf (now (values .entry)) (now (regs .entry)) row) 32 ⌝ }
+    requires { ⌜ (now matrix ≡ spreadOf (now regs)) × (now low ≡ listed (λ _. 0) 16) × (now high ≡ listed (λ _. 0) 16) ⌝ }
+    ensures { λ _. ⌜ (now (low .exit) ≡ listed (lowOf (now (values .entry)) (now (regs .entry)) row) 16)
+        × (now (high .exit) ≡ listed (highOf (now (values .entry)) (now (regs .entry)) row) 16) ⌝ }
 {
     let turned = turn(values);
     let at = 128 * (row % 4);
-    let mut low = [0u8; 16];
-    let mut high = [0u8; 16];
+    let mut w = 128u8;
     for b in 0..8 {
-        add_column(&turned, matrix, at, b, &mut low, &mut high);
-    }
-    for t in 0..16 {
-        pairs[2 * t] = low[t];
-        pairs[2 * t + 1] = high[t];
+        add_column(&turned, matrix, at, b, w, low, high);
+        w = w / 2;
     }
 }

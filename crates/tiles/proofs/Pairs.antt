@@ -14,7 +14,7 @@ use Rattle.lighting.specs.declared.Setting.{Setting}
 use Rattle.lighting.specs.Taken.{settingOf}
 use Rattle.sensor.specs.Shade.{valueAt, shadeOf, shadeAt}
 use Rattle.rows.specs.Aside.{valueRow}
-use Rattle.strips.specs.Aside.{lowOf, highOf, byteOf}
+use Rattle.strips.specs.Aside.{lowOf, highOf}
 use Rattle.tiles.specs.Tiles.{place, Bytes}
 use Rattle.tiles.specs.Picture.{lowByte, highByte, pictureByte, pictureOf}
 use Rattle.tiles.specs.Aside.{pixels}
@@ -33,30 +33,21 @@ module _ (lit : ℕ → ℕ → ℕ) (regs : List ℕ) (set : Setting) (asked : 
       ap (shadeOf regs (8 * t + b) (y + 8))
       (listed-at (λ x. valueAt lit set x (y + 8)) 128 (8 * t + b) (omega arith) ∙ ap (λ (s : Setting). valueAt lit s (8 * t + b) (y + 8)) asked)
 
-  low-same : lowOf (valueRow lit set (y + 8)) regs t (y + 8) ≡ lowByte lit regs t y
+  low-same : lowOf (valueRow lit set (y + 8)) regs (y + 8) t ≡ lowByte lit regs t y
   unfolding lowOf lowByte
   low-same = packed-ext _ _ 8 (λ b h. ap (λ (n : ℕ). n % 2) (same b h))
 
-  high-same : highOf (valueRow lit set (y + 8)) regs t (y + 8) ≡ highByte lit regs t y
+  high-same : highOf (valueRow lit set (y + 8)) regs (y + 8) t ≡ highByte lit regs t y
   unfolding highOf highByte
   high-same = packed-ext _ _ 8 (λ b h. ap (λ (n : ℕ). n / 2) (same b h))
 
   -- as they are made of a row of values
   module _ {values : List ℕ} (made : values ≡ valueRow lit set (y + 8)) where
-    module _ {pairs : List ℕ} (put : pairs ≡ listed (byteOf values regs (y + 8)) 32) where
-      pub low-made : getD pairs (2 * t) 0 ≡ lowByte lit regs t y
-      unfolding byteOf
-      low-made =
-          let a : 2 * t % 2 ≡ 0 = omega arith in
-          let b : 2 * t / 2 ≡ t = omega arith in
-          rw (put, listed-at (byteOf values regs (y + 8)) 32 (2 * t) (omega arith), a, b, made) low-same
+    pub low-made : {low : List ℕ} → low ≡ listed (lowOf values regs (y + 8)) 16 → getD low t 0 ≡ lowByte lit regs t y
+    low-made put = rw (put, listed-at (lowOf values regs (y + 8)) 16 t ht, made) low-same
 
-      pub high-made : getD pairs (2 * t + 1) 0 ≡ highByte lit regs t y
-      unfolding byteOf
-      high-made =
-          let a : (2 * t + 1) % 2 ≡ 1 = omega arith in
-          let b : (2 * t + 1) / 2 ≡ t = omega arith in
-          rw (put, listed-at (byteOf values regs (y + 8)) 32 (2 * t + 1) (omega arith), a, b, made) high-same
+    pub high-made : {high : List ℕ} → high ≡ listed (highOf values regs (y + 8)) 16 → getD high t 0 ≡ highByte lit regs t y
+    high-made put = rw (put, listed-at (highOf values regs (y + 8)) 16 t ht, made) high-same
 
 -- ---- pairs, one after another
 module _ (lit : ℕ → ℕ → ℕ) (regs : List ℕ) (at : ℕ) where

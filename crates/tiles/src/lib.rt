@@ -165,13 +165,14 @@ fn put_line(
         × Carried (byteAt (now (store .entry))) set (y + 8 + 1) (now (carried .exit)) ⌝ }
 {
     rows::next_row(store, set, y + 8, carried, values);
-    let mut pairs = [0u8; 32];
-    strips::shade_row(values, matrix, regs, y + 8, &mut pairs);
+    let mut low = [0u8; 16];
+    let mut high = [0u8; 16];
+    strips::shade_row(values, matrix, regs, y + 8, &mut low, &mut high);
     for t in 0..16 {
         let o = at + pair_at(t, y);
         let p = o + 1;
-        out[o] = pairs[2 * t];
-        out[p] = pairs[2 * t + 1];
+        out[o] = low[t];
+        out[p] = high[t];
     }
 }
 
