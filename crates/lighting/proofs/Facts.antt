@@ -1,8 +1,8 @@
 -- The ranges that light and settings keep. Assumes nothing.
-use mathlib.Core.Path.{_≡_, sym, ap, _∙_}
+use mathlib.Core.Path.{_≡_, refl, sym, ap, _∙_}
 use mathlib.Core.Bool.{Bool, _&&_}
 use mathlib.Core.List.{List, [], _∷_}
-use Prim.Native.Nat.{ℕ, zero, suc, _+_, _*_, _/_, _%_, _≤_, _<_}
+use Prim.Native.Nat.{ℕ, zero, suc, _+_, _-_, _*_, _/_, _%_, _≤_, _<_}
 use native.Mathlib.Nat.{mul-le-mul, mul-add, mul-assoc}
 use native.Mathlib.Omega.{arith}
 use lib.IntN.{natAbs}
@@ -83,3 +83,23 @@ quarters-small (suc (suc (suc (suc (suc (suc (suc (suc k)))))))) = lit≤ tt
 pub setting-sane : (regs : List ℕ) → Sane (settingOf regs)
 unfolding settingOf quartersOf
 setting-sane regs = record { quarters = quarters-small (getD regs 4 0 / 16 % 8) }
+
+-- α in quarters, worked out: below level 4, and from there on
+pub alpha-low : (n : ℕ) → n < 4 → n + 2 ≡ getD alphas n 0
+alpha-low zero h = refl
+alpha-low (suc zero) h = refl
+alpha-low (suc (suc zero)) h = refl
+alpha-low (suc (suc (suc zero))) h = refl
+alpha-low (suc (suc (suc (suc n)))) h = absurd (omega arith)
+
+alpha-from : (k : ℕ) → k < 4 → 4 * (4 + k) - 8 ≡ getD alphas (4 + k) 0
+alpha-from zero h = refl
+alpha-from (suc zero) h = refl
+alpha-from (suc (suc zero)) h = refl
+alpha-from (suc (suc (suc zero))) h = refl
+alpha-from (suc (suc (suc (suc k)))) h = absurd (omega arith)
+
+pub alpha-high : (n : ℕ) → 4 ≤ n → n < 8 → 4 * n - 8 ≡ getD alphas n 0
+alpha-high n l h =
+    let e : 4 + (n - 4) ≡ n = omega arith in
+    rw e at (alpha-from (n - 4) (omega arith))

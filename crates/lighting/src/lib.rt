@@ -15,9 +15,6 @@ pub struct Setting {
     pub kind: u8,
 }
 
-// α in quarters, by bits 6-4 of A004.
-const ALPHAS: [u8; 8] = [2, 3, 4, 5, 8, 12, 16, 20];
-
 // A byte as a wider number, with its bound.
 fn wide(x: u8) -> u16
     ensures { λ r. ⌜ (r ≡ x) × (r < 256) ⌝ }
@@ -25,11 +22,15 @@ fn wide(x: u8) -> u16
     x as u16
 }
 
-// α in quarters of the byte of A004.
+// α in quarters of the byte of A004, by bits 6-4: 2, 3, 4, 5, 8, 12, 16, 20, worked out, so that no table is put into memory at each call.
 fn quarters_of(byte: u8) -> u8
     ensures { λ r. ⌜ r ≡ getD alphas (byte / 16 % 8) 0 ⌝ }
 {
-    ALPHAS[(byte / 16 % 8) as usize]
+    let level = byte / 16 % 8;
+    if level < 4 {
+        return level + 2;
+    }
+    4 * level - 8
 }
 
 // The exposure of the registers: A002 * 256 + A003.

@@ -81,6 +81,7 @@ pub(crate) fn step_4(store: &[u8], set: Setting, x: usize, row: usize) -> i32
     let mode = set.mode;
     let quarters = set.quarters;
     match mode {
+        0x0 => signed_at(store, x, row),
         0x1 => 0,
         0x2 => filters::mode_2(quarters, nine(store, x, row)),
         0x3 => filters::mode_3(quarters, nine(store, x, row)),

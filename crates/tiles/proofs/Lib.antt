@@ -4,5 +4,6 @@ pub mod Pixels
 pub mod Area
 pub mod Eight
 pub mod Pairs
+pub mod Part
 pub mod Lit
 pub mod EdgeRows

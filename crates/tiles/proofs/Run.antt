@@ -27,10 +27,6 @@ module _ (lit : ℕ → ℕ → ℕ) (regs : List ℕ) where
   pub pixels-more : (from j : ℕ) (ram : List ℕ) → from ≤ j → pixels lit regs from (j + 1) ram ≡ putNth lit regs j (pixels lit regs from j ram)
   pixels-more from j ram h = simp add-one (pixels-suc from j ram h)
 
-  -- one pixel
-  pub pixels-one : (j : ℕ) (ram : List ℕ) → pixels lit regs j (j + 1) ram ≡ putNth lit regs j ram
-  pixels-one j ram = pixels-more j j ram (omega arith) ∙ ap (putNth lit regs j) (pixels-none j ram)
-
   -- from..mid, and then mid..to
   pub pixels-join : (from mid to : ℕ) (ram : List ℕ) → from ≤ mid → mid ≤ to → pixels lit regs mid to (pixels lit regs from mid ram) ≡ pixels lit regs from to ram
   pixels-join from mid zero ram low high =

@@ -9,9 +9,8 @@ ghost use Rattle.lighting.specs.Aside.{Asked};
 ghost use Rattle.lighting.specs.Light.{byteAt};
 ghost use Rattle.rows.specs.Aside.{Carried};
 ghost use Rattle.strips.specs.Aside.{spreadOf};
-ghost use Rattle.tiles.specs.Tiles.{putAt};
-ghost use Rattle.tiles.specs.Picture.{lowByte, highByte, pictureOf};
-ghost use Rattle.tiles.specs.Aside.{putNth, pixels};
+ghost use Rattle.tiles.specs.Picture.{pictureOf};
+ghost use Rattle.tiles.specs.Aside.{pixels};
 ghost use Rattle.tiles.specs.Aside.{putPairs};
 
 // The picture's offset in RAM bank 0, its bytes, and its pixels: 112 rows of 128.
@@ -38,31 +37,6 @@ pub fn pair_at(t: usize, y: usize) -> usize
     16 * (16 * (y / 8) + t) + 2 * (y % 8)
 }
 
-// Puts a pixel of the picture: the shade's low bit in one byte, its high bit in the next.
-fn put_pixel(ram: &mut [u8], x: usize, y: usize, shade: u8)
-    requires { ⌜ (x < 128) × (y < 112) × (shade < 4) × (8192 ≤ length (now ram)) ⌝ }
-    ensures { λ _. ⌜ now (ram .exit) ≡ putAt (now (ram .entry)) x y shade ⌝ }
-{
-    let low = PICTURE + pair_at(x / 8, y);
-    let high = low + 1;
-    let bit = (7 - x % 8) as u8;
-    let a = put_bit(ram[low], bit, shade % 2);
-    let b = put_bit(ram[high], bit, shade / 2);
-    ram[low] = a;
-    ram[high] = b;
-}
-
-// Puts pixel j of the picture, row by row: picture row y is sensor row y + 8.
-fn put_nth(ram: &mut [u8], store: &[u8], set: Setting, regs: &[u8], j: usize)
-    requires { ⌜ (j < 14336) × (8192 ≤ length (now ram)) × (length (now store) ≡ 16384) × (Asked set (now regs)) × (length (now regs) ≡ 54) ⌝ }
-    ensures { λ _. ⌜ now (ram .exit) ≡ putNth (byteAt (now (store .entry))) (now (regs .entry)) j (now (ram .entry)) ⌝ }
-{
-    let x = j % 128;
-    let y = j / 128;
-    let pixel = sensor::pixel_at(store, set, regs, x, y + 8);
-    put_pixel(ram, x, y, pixel.shade);
-}
-
 // The registers as an array of their own, for whole rows.
 fn whole(regs: &[u8]) -> [u8; 54]
     requires { ⌜ length (now regs) ≡ 54 ⌝ }
@@ -75,8 +49,41 @@ fn whole(regs: &[u8]) -> [u8; 54]
     out
 }
 
-// Puts pixel j of the picture, or the eight from j on where they stand in the same two bytes and all are to be put, or whole rows where j
-// begins one: the next to put.
+// Where the pixels from j on that stand in the same two bytes end, those to be put.
+fn part_end(j: usize, to: usize) -> usize
+    requires { ⌜ (j < to) × (to ≤ 14336) ⌝ }
+    ensures { λ r. ⌜ (j < r) × (r ≤ to) × (r ≤ 8 * (j / 8) + 8) ⌝ }
+{
+    let end = 8 * (j / 8) + 8;
+    if to < end {
+        return to;
+    }
+    end
+}
+
+// Puts the pixels from j to end, which stand in the same two bytes: these are read once, and stored once.
+fn put_part(ram: &mut [u8], store: &[u8], set: Setting, regs: &[u8], j: usize, end: usize)
+    requires { ⌜ (j < end) × (end ≤ 14336) × (end ≤ 8 * (j / 8) + 8) × (8192 ≤ length (now ram)) × (length (now store) ≡ 16384) ⌝ }
+    requires { ⌜ Asked set (now regs) × (length (now regs) ≡ 54) ⌝ }
+    ensures { λ _. ⌜ now (ram .exit) ≡ pixels (byteAt (now (store .entry))) (now (regs .entry)) j end (now (ram .entry)) ⌝ }
+{
+    let y = j / 128;
+    let o = PICTURE + pair_at(j % 128 / 8, y);
+    let p = o + 1;
+    let mut low = ram[o];
+    let mut high = ram[p];
+    for k in j..end {
+        let x = k % 128;
+        let pixel = sensor::pixel_at(store, set, regs, x, y + 8);
+        let bit = (7 - x % 8) as u8;
+        low = put_bit(low, bit, pixel.shade % 2);
+        high = put_bit(high, bit, pixel.shade / 2);
+    }
+    ram[o] = low;
+    ram[p] = high;
+}
+
+// Puts the pixels from j on that stand in the same two bytes, or whole rows where j begins one: the next to put.
 fn put_some(ram: &mut [u8], store: &[u8], set: Setting, regs: &[u8], j: usize, to: usize) -> usize
     requires { ⌜ (j < to) × (to ≤ 14336) × (8192 ≤ length (now ram)) × (length (now store) ≡ 16384) × (Asked set (now regs)) × (length (now regs) ≡ 54) ⌝ }
     ensures { λ r. ⌜ (now (ram .exit) ≡ pixels (byteAt (now (store .entry))) (now (regs .entry)) j r (now (ram .entry))) × (j < r) × (r ≤ to) ⌝ }
@@ -99,16 +106,9 @@ fn put_some(ram: &mut [u8], store: &[u8], set: Setting, regs: &[u8], j: usize, t
             return 128 * end;
         }
     }
-    if j % 8 != 0 {
-        put_nth(ram, store, set, regs, j);
-        return j + 1;
-    }
-    if to < j + 8 {
-        put_nth(ram, store, set, regs, j);
-        return j + 1;
-    }
-    put_row(ram, store, set, regs, j);
-    j + 8
+    let end = part_end(j, to);
+    put_part(ram, store, set, regs, j, end);
+    end
 }
 
 // Puts the pixels from..to of the picture, in order.
@@ -120,29 +120,6 @@ pub fn put_pixels(ram: &mut [u8], store: &[u8], set: Setting, regs: &[u8], from:
     while j < to {
         j = put_some(ram, store, set, regs, j, to);
     }
-}
-
-// Eight pixels of a row: their low bits, and their high bits, the first pixel's the highest.
-pub struct TileRow {
-    pub low: u8,
-    pub high: u8,
-}
-
-// The eight pixels of picture row y from column 8 * t on. `set` is what `regs` ask.
-fn tile_row(store: &[u8], set: Setting, regs: &[u8], t: usize, y: usize) -> TileRow
-    requires { ⌜ (length (now store) ≡ 16384) × (t < 16) × (y < 112) ⌝ }
-    requires { ⌜ Asked set (now regs) × (length (now regs) ≡ 54) ⌝ }
-    ensures { λ r. ⌜ (r .low ≡ lowByte (byteAt (now (store .entry))) (now (regs .entry)) t y)
-        × (r .high ≡ highByte (byteAt (now (store .entry))) (now (regs .entry)) t y) ⌝ }
-{
-    let mut low: u8 = 0;
-    let mut high: u8 = 0;
-    for b in 0..8 {
-        let pixel = sensor::pixel_at(store, set, regs, 8 * t + b, y + 8);
-        low = low * 2 + pixel.shade % 2;
-        high = high * 2 + pixel.shade / 2;
-    }
-    TileRow { low, high }
 }
 
 // Puts a row of the picture whose first byte is out[at], two bytes a tile. What is carried moves on by a row; `matrix` is that of `regs`, spread.
@@ -217,19 +194,4 @@ pub fn fill(store: &[u8], set: Setting, regs: &[u8; 54], out: &mut [u8])
     ensures { λ _. ⌜ now (out .exit) ≡ pictureOf (byteAt (now (store .entry))) (now (regs .entry)) ⌝ }
 {
     put_rows(out, 0, store, set, regs, 0, 112);
-}
-
-// Pixels j to j + 7 of the picture, which stand in the same two bytes.
-fn put_row(ram: &mut [u8], store: &[u8], set: Setting, regs: &[u8], j: usize)
-    requires { ⌜ (8192 ≤ length (now ram)) × (length (now store) ≡ 16384) × (j % 8 ≡ 0) × (j + 8 ≤ 14336) ⌝ }
-    requires { ⌜ Asked set (now regs) × (length (now regs) ≡ 54) ⌝ }
-    ensures { λ _. ⌜ now (ram .exit) ≡ pixels (byteAt (now (store .entry))) (now (regs .entry)) j (j + 8) (now (ram .entry)) ⌝ }
-{
-    let t = j % 128 / 8;
-    let y = j / 128;
-    let row = tile_row(store, set, regs, t, y);
-    let o = PICTURE + pair_at(t, y);
-    let p = o + 1;
-    ram[o] = row.low;
-    ram[p] = row.high;
 }

@@ -1,10 +1,9 @@
--- `tiles::put_some` meets its contract: one pixel, the eight of two bytes, or whole rows. Assumes nothing.
+-- `tiles::put_some` meets its contract: the pixels of two bytes, or whole rows. Assumes nothing.
 use Prim.Native.Nat.{_+_, _-_, _*_, _/_}
 use native.Mathlib.Omega.{arith}
-use mathlib.Core.Path.{_≡_, sym, _∙_}
+use mathlib.Core.Path.{_≡_, _∙_}
 use borrow.Author.Needs.{needs}
 use Rattle.lighting.specs.Light.{byteAt}
-use Rattle.tiles.proofs.Run.{pixels-one}
 use Rattle.tiles.proofs.Pairs.{pairs-pixels}
 use Rattle.tiles.proofs.put_some.Statement.{statement}
 use Rattle.tiles.proofs.put_some.Tie as tie
@@ -24,10 +23,10 @@ returns c =
     )
 
 returns-2 : tie.Need-returns-2
-returns-2 c = (c .before .before .put-nth .ensures ∙ sym (pixels-one _ _ _ _), omega arith, omega arith)
-
-returns-3 : tie.Need-returns-3
-returns-3 c = (c .before .before .put-nth2 .ensures ∙ sym (pixels-one _ _ _ _), omega arith, omega arith)
+returns-2 c =
+    let p = c .before .before in
+    let e = p .before .before .part-end .ensures in
+    (p .put-part .ensures, e .0, e .1)
 
 pub put-some-spec : {M : Type 1} → statement M
 put-some-spec =
@@ -42,15 +41,6 @@ put-some-spec =
     (λ c. search needs)
     returns
     (λ c κs. search needs)
-    (λ c. search needs)
-    (λ c. search needs)
-    returns-2
-    (λ c. search needs)
     (λ c κs. search needs)
     (λ c. search needs)
-    (λ c. search needs)
-    returns-3
-    (λ c κs. search needs)
-    (λ c. search needs)
-    (λ c. search needs)
-    (λ c. search needs))
+    returns-2)
