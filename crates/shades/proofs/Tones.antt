@@ -16,7 +16,7 @@ use Rattle.laws.proofs.Table.{every, at, is}
 use Rattle.lighting.specs.Light.{turned}
 use Rattle.tiles.specs.Tiles.{place, shadeIn}
 use Rattle.shades.specs.Shades.{shadeNth}
-use Rattle.shades.specs.Aside.{weightOf, eightOf, bitsOf, Built, Weight, putEight, toneNth}
+use Rattle.shades.specs.Aside.{weightOf, eightOf, bitsOf, Built, Weight, putEight, toneNth, Eight, eightBy}
 
 -- ---- one bit
 
@@ -176,6 +176,25 @@ module _ (ram : List ℕ) (step : ℕ) (negative : Bool) (small : 3 * step < 256
   pair-eight t b hl hh =
       eight-turned negative (λ k. bitOf l (7 - k) * step + bitOf h (7 - k) * (2 * step)) _ (λ k. sum-small _ _ step (omega arith) (omega arith) small) (pair-sum t b hl hh)
       ∙ eight-ext _ _ pair-tone
+
+-- the pixels of two byte pairs beside each other, put
+module _ (ram : List ℕ) (step : ℕ) (negative : Bool) (small : 3 * step < 256) {t : List ℕ} (built : Built step 256 t) where
+  abbrev tone : ℕ → ℕ
+  tone = toneNth step (2 * step) negative ram
+
+  by-eight : {x y r : ℕ} → Eight ram t x y negative r → x < 16 → r ≡ eightOf (λ k. tone (128 * y + 8 * x + k))
+  unfolding eightBy
+  by-eight {x} {y} e h = e .made ∙ pair-eight ram step negative small y x _ _ h refl refl t built (e .low) (e .high)
+
+  pub two-put : {x y a b : ℕ} {out : List ℕ} → Eight ram t (2 * x) y negative a → Eight ram t (2 * x + 1) y negative b → x < 8 → y < 112
+      → Filled tone 14336 (128 * y + 16 * x) out → Filled tone 14336 (128 * y + 16 * (x + 1)) (putEight (putEight out (128 * y + 16 * x) a) (128 * y + 16 * x + 8) b)
+  two-put {x} {y} {a} {b} ea eb hx hy r =
+      let n : 128 * y + 8 * (2 * x) ≡ 128 * y + 16 * x = omega arith in
+      let m : 128 * y + 8 * (2 * x + 1) ≡ 128 * y + 16 * x + 8 = omega arith in
+      let first = rw n at (by-eight ea (omega arith)) in
+      let second = rw m at (by-eight eb (omega arith)) in
+      let one = filled-eight tone a r (omega arith) (tone-small step negative ram small) first in
+      filled-to tone (filled-eight tone b one (omega arith) (tone-small step negative ram small) second) (omega arith)
 
 -- ---- all pixels
 

@@ -6,6 +6,7 @@ use mathlib.Core.List.{List}
 use Prim.Native.Nat.{ℕ, _+_, _-_, _*_, _/_, _%_, _^_, _<_, _≤_}
 use lib.ListN.{length, getD, set}
 use Rattle.laws.specs.Bits.{bitOf}
+use Rattle.laws.specs.Pick.{pick}
 use Rattle.lighting.specs.Light.{turned}
 use Rattle.tiles.specs.Tiles.{place}
 
@@ -25,6 +26,20 @@ bitsOf b = eightOf (λ k. bitOf b (7 - k))
 pub record Built (step n : ℕ) (t : List ℕ) : Type 0 where
   pub whole : length t ≡ 256
   pub same : (b : ℕ) → b < n → getD t b 0 ≡ step * bitsOf b
+
+-- no number of such a table is so large that three of them would not fit
+abbrev pub Low : List ℕ → Type 0
+Low t = (b : ℕ) → b < 256 → getD t b 0 ≤ 0x5555555555555555
+
+-- eight pixels by it, or the negative of them, from their two bytes
+unfoldable pub eightBy : Bool → List ℕ → ℕ → ℕ → ℕ
+eightBy negative t l h = pick negative (0xFFFFFFFFFFFFFFFF - (getD t l 0 + 2 * getD t h 0)) (getD t l 0 + 2 * getD t h 0)
+
+-- so those of the two bytes of tile column x in row y
+pub record Eight (ram t : List ℕ) (x y : ℕ) (negative : Bool) (r : ℕ) : Type 0 where
+  pub low : getD ram (place (8 * x) y) 0 < 256
+  pub high : getD ram (place (8 * x) y + 1) 0 < 256
+  pub made : r ≡ eightBy negative t (getD ram (place (8 * x) y) 0) (getD ram (place (8 * x) y + 1) 0)
 
 -- a byte with one bit, and what that bit adds to the bytes below it
 pub record Weight (w bit : ℕ) : Type 0 where

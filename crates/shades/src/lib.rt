@@ -12,7 +12,7 @@ ghost use Rattle.laws.specs.Pick.{pick};
 ghost use Rattle.controller.specs.Outcome.{verdictNumber};
 ghost use Rattle.controller.specs.Table.{lowest};
 ghost use Rattle.shades.specs.Shades.{shadeNth, outputNumber, outputValue, exported, shadesRows, shadesMeans};
-ghost use Rattle.shades.specs.Aside.{weightOf, Built, Weight, putEight, toneNth};
+ghost use Rattle.shades.specs.Aside.{weightOf, Built, Weight, Low, Eight, putEight, toneNth};
 
 // How many bytes were written, or why none.
 pub enum Output {
@@ -88,7 +88,19 @@ fn turn(v: u64, negative: bool) -> u64
     v
 }
 
+// Eight pixels of row y, from column 8 * x on, by a table of what each byte's bits are.
+fn eight(ram: &[u8], t: &[u64; 256], x: usize, y: usize, negative: bool) -> u64
+    requires { ⌜ (8192 ≤ length (now ram)) × (x < 16) × (y < 112) × Low (now t) ⌝ }
+    ensures { λ r. ⌜ Eight (now (ram .entry)) (now (t .entry)) x y negative r ⌝ }
+{
+    let at = tiles::PICTURE + tiles::pair_at(x, y);
+    let l = ram[at] as usize;
+    let h = ram[at + 1] as usize;
+    turn(t[l] + 2 * t[h], negative)
+}
+
 // All pixels, row by row, eight at a time: `step` for the low bit and twice that for the high bit, or the negative of it. Shades by 1, greys by 85.
+// Two times eight are read before they are put, so that the two stores can be one.
 pub fn put_tones(ram: &[u8], step: u8, negative: bool, pixels: &mut [u8])
     requires { ⌜ (8192 ≤ length (now ram)) × (length (now pixels) ≡ 14336) ⌝ }
     requires { ⌜ 3 * step < 256 ⌝ }
@@ -97,12 +109,11 @@ pub fn put_tones(ram: &[u8], step: u8, negative: bool, pixels: &mut [u8])
     let mut t = [0u64; 256];
     fill(&mut t, step);
     for y in 0..112 {
-        for x in 0..16 {
-            let at = tiles::PICTURE + tiles::pair_at(x, y);
-            let l = ram[at] as usize;
-            let h = ram[at + 1] as usize;
-            let v = t[l] + 2 * t[h];
-            put_eight(pixels, 128 * y + 8 * x, turn(v, negative));
+        for x in 0..8 {
+            let a = eight(ram, &t, 2 * x, y, negative);
+            let b = eight(ram, &t, 2 * x + 1, y, negative);
+            put_eight(pixels, 128 * y + 16 * x, a);
+            put_eight(pixels, 128 * y + 16 * x + 8, b);
         }
     }
 }
