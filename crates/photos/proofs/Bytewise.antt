@@ -49,17 +49,10 @@ module _ (b n : ℕ) (h : n < 15) where
   unfolding moved
   comment-more w = rw (part-at n h) (simp w)
 
--- past all parts, and past all hope
+-- past all parts
 pub moved-past : (b m : ℕ) → from 3 15 ≡ moved b m (drop 15 parts)
 unfolding moved parts
 moved-past b m = refl
-
-pub moved-wrong : (b m n : ℕ) → n < 15 → (m ≡ 0 → ⊥) → (m ≡ 1 → ⊥) → (m ≡ 2 → ⊥) → from m n ≡ moved b m (drop n parts)
-unfolding moved
-moved-wrong b zero n h x y z = absurd (x refl)
-moved-wrong b (suc zero) n h x y z = absurd (y refl)
-moved-wrong b (suc (suc zero)) n h x y z = absurd (z refl)
-moved-wrong b (suc (suc (suc m))) n h x y z = rw (part-at n h)
 
 -- a whole text, byte after byte
 pub reads-more : (l : Left) (b : ℕ) (s : List ℕ) → reads s (moved b (l .mode) (l .to)) ≡ reads (b ∷ s) l
@@ -67,10 +60,6 @@ unfolding reads
 reads-more l b s = refl
 
 -- it ends where no part is still to come
-pub reads-end : (m n : ℕ) → n ≤ 15 → reads [] (from m n) ≡ finished m (drop n parts)
-unfolding reads
-reads-end m n h = refl
-
 pub finished-no : (m : ℕ) (ps : List ℕ) → (m ≡ 0 → ⊥) → finished m ps ≡ false
 unfolding finished
 finished-no zero ps h = absurd (h refl)

@@ -47,7 +47,7 @@ opened c ps h =
     }
 
 -- past all hope nothing is read
-lost : (s : List ℕ) (ps : List ℕ) → reads s (left 3 ps) ≡ false
+pub lost : (s : List ℕ) (ps : List ℕ) → reads s (left 3 ps) ≡ false
 unfolding reads moved finished
 lost [] ps = refl
 lost (b ∷ s) [] = lost s []

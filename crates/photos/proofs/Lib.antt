@@ -2,4 +2,5 @@
 pub mod Bytewise
 pub mod Imports
 pub mod Grammar
+pub mod Reader
 pub mod Accepted

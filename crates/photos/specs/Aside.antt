@@ -1,10 +1,11 @@
 -- Aside: devices of contracts between functions. Nothing here need be believed: every use of it is tied by a proof to the definitions beside it.
 -- Reading a header byte by byte: `Grammar.reads-header` ties it to Header. Assumes nothing.
+use mathlib.Core.Path.{_≡_}
 use mathlib.Core.Bool.{Bool, true, false}
 use mathlib.Core.List.{List, [], _∷_}
-use Prim.Native.Nat.{ℕ, zero, suc}
+use Prim.Native.Nat.{ℕ, zero, suc, _+_, _<_, _≤_}
 use lib.Dec.{eqb}
-use lib.ListN.{drop}
+use lib.ListN.{length, getD, drop}
 use Rattle.laws.specs.Pick.{pick}
 use Rattle.photos.specs.Header.{isWhite, isEnd, parts}
 
@@ -57,3 +58,33 @@ from mode n = left mode (drop n parts)
 -- the text is a header
 unfoldable pub isHeader : List ℕ → Bool
 isHeader s = reads s (from 0 0)
+
+-- what is left of a text at a place, from such a place on
+abbrev pub goes : List ℕ → ℕ → ℕ → ℕ → Bool
+goes text i mode n = reads (drop i text) (from mode n)
+
+-- where a gap has ended: at the end of the text, or before a byte that is neither white space nor #
+pub record Next (text : List ℕ) (i : ℕ) : Type 0 where
+  pub inside : i ≤ length text
+  pub plain : i < length text → isWhite (getD text i 0) ≡ false
+  pub still : i < length text → getD text i 0 ≡ 0x23 → ⊥
+
+-- three parts from number n on that are given bytes
+pub record Given (n a b c : ℕ) : Type 0 where
+  pub room : n + 2 < 15
+  pub first : getD parts n 0 ≡ a
+  pub second : getD parts (n + 1) 0 ≡ b
+  pub third : getD parts (n + 2) 0 ≡ c
+  pub bytes : (2 ≤ b) × (2 ≤ c)
+
+-- whether such bytes stand there
+pub record Has (text : List ℕ) (i a b c : ℕ) (r : Bool) : Type 0 where
+  pub inside : r ≡ true → i + 3 ≤ length text
+  pub yes : r ≡ true → (n : ℕ) → Given n a b c → goes text i 1 n ≡ goes text (i + 3) 0 (n + 3)
+  pub no : r ≡ false → (n : ℕ) → Given n a b c → goes text i 1 n ≡ false
+
+-- whether the text begins with the first two parts
+pub record Begins (text : List ℕ) (r : Bool) : Type 0 where
+  pub inside : r ≡ true → 2 ≤ length text
+  pub yes : r ≡ true → isHeader text ≡ goes text 2 0 2
+  pub no : r ≡ false → isHeader text ≡ false

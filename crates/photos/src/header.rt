@@ -1,34 +1,10 @@
-// The header of a photograph, read byte by byte: `P6`, 128, 128, 255, with white space and comments between.
+// The header of a photograph, read from the left: `P6`, 128, 128, 255, with white space and comments between.
 ghost use mathlib.Core.Path.{_≡_};
-ghost use Prim.Native.Nat.{ℕ, _≤_, _<_};
-ghost use lib.ListN.{drop};
+ghost use mathlib.Core.Bool.{true, false};
+ghost use Prim.Native.Nat.{ℕ, _+_, _≤_, _<_};
+ghost use lib.ListN.{length, getD, drop};
 ghost use Rattle.photos.specs.Header.{isWhite, isEnd, parts};
-ghost use Rattle.photos.specs.Aside.{moved, from, isHeader};
-
-// A header's parts: a byte that is given, a gap of white space and comments (0), one white space byte (1).
-const PARTS: [u8; 15] = [
-    b'P',
-    b'6',
-    0,
-    b'1',
-    b'2',
-    b'8',
-    0,
-    b'1',
-    b'2',
-    b'8',
-    0,
-    b'2',
-    b'5',
-    b'5',
-    1,
-];
-
-// Where a reading is: the next part, and whether before it (0), in a gap before it (1), in a comment there (2), or past all hope (3).
-pub struct Place {
-    pub part: usize,
-    pub mode: u8,
-}
+ghost use Rattle.photos.specs.Aside.{Next, Has, Begins, goes, isHeader};
 
 // White space: space, tab, LF, VT, FF, CR.
 fn is_white(b: u8) -> bool
@@ -53,112 +29,113 @@ fn is_end(b: u8) -> bool
     b == 0x0D
 }
 
-// Before a part: its first byte.
-fn at_part(part: usize, b: u8) -> Place
-    requires { ⌜ part < 15 ⌝ }
-    ensures { λ r. ⌜ (from (r .mode) (r .part) ≡ moved b 0 (drop part parts)) × (r .part ≤ 15) ⌝ }
+// Where a comment ends that has been entered: after the next LF or CR, or at the end of the text.
+fn comment_end(text: &[u8], from: usize) -> usize
+    requires { ⌜ from ≤ length (now text) ⌝ }
+    ensures { λ r. ⌜ (from ≤ r) × (r ≤ length (now (text .entry))) × ((n : ℕ) → n < 15 → goes (now (text .entry)) from 2 n ≡ goes (now (text .entry)) r 1 n) ⌝ }
 {
-    let c = PARTS[part];
-    let next = part + 1;
-    if c == 0 {
-        if is_white(b) {
-            return Place {
-                part: next,
-                mode: 1,
-            };
+    let mut i = from;
+    while i < text.len() {
+        if is_end(text[i]) {
+            return i + 1;
         }
-        return Place {
-            part: next,
-            mode: 3,
-        };
+        i = i + 1;
     }
-    if c == 1 {
+    i
+}
+
+// Where a gap ends that has been entered: what comes next is neither white space nor a comment.
+fn gap_end(text: &[u8], from: usize) -> usize
+    requires { ⌜ from ≤ length (now text) ⌝ }
+    ensures { λ r. ⌜ Next (now (text .entry)) r × ((n : ℕ) → n < 15 → goes (now (text .entry)) from 1 n ≡ goes (now (text .entry)) r 1 n) ⌝ }
+{
+    let mut i = from;
+    while i < text.len() {
+        let b = text[i];
         if is_white(b) {
-            return Place {
-                part: next,
-                mode: 0,
-            };
+            i = i + 1;
+        } else {
+            if b != b'#' {
+                return i;
+            }
+            i = comment_end(text, i + 1);
         }
-        return Place {
-            part: next,
-            mode: 3,
-        };
     }
-    if b == c {
-        return Place {
-            part: next,
-            mode: 0,
-        };
-    }
-    Place {
-        part: next,
-        mode: 3,
-    }
+    i
 }
 
-// In a gap: white space, a comment, or the part after the gap.
-fn in_gap(part: usize, b: u8) -> Place
-    requires { ⌜ part < 15 ⌝ }
-    ensures { λ r. ⌜ (from (r .mode) (r .part) ≡ moved b 1 (drop part parts)) × (r .part ≤ 15) ⌝ }
+// Where a gap ends; the end of the text if there is none.
+fn after_gap(text: &[u8], from: usize) -> usize
+    requires { ⌜ from ≤ length (now text) ⌝ }
+    ensures { λ r. ⌜ Next (now (text .entry)) r × ((n : ℕ) → n < 14 → getD parts n 0 ≡ 0 → goes (now (text .entry)) from 0 n ≡ goes (now (text .entry)) r 1 (n + 1)) ⌝ }
 {
-    if is_white(b) {
-        return Place { part, mode: 1 };
+    if from < text.len() {
+        if is_white(text[from]) {
+            return gap_end(text, from + 1);
+        }
     }
-    if b == b'#' {
-        return Place { part, mode: 2 };
-    }
-    if b == PARTS[part] {
-        return Place {
-            part: part + 1,
-            mode: 0,
-        };
-    }
-    Place { part, mode: 3 }
+    text.len()
 }
 
-// In a comment: it goes to the next LF or CR.
-fn in_comment(part: usize, b: u8) -> Place
-    requires { ⌜ part < 15 ⌝ }
-    ensures { λ r. ⌜ (from (r .mode) (r .part) ≡ moved b 2 (drop part parts)) × (r .part ≤ 15) ⌝ }
+// Whether three given bytes stand at a place where a gap has ended.
+fn has(text: &[u8], at: usize, a: u8, b: u8, c: u8) -> bool
+    requires { ⌜ Next (now text) at ⌝ }
+    ensures { λ r. ⌜ Has (now (text .entry)) at a b c r ⌝ }
 {
-    if is_end(b) {
-        return Place { part, mode: 1 };
+    if text.len() < at + 3 {
+        return false;
     }
-    Place { part, mode: 2 }
+    if text[at] != a {
+        return false;
+    }
+    if text[at + 1] != b {
+        return false;
+    }
+    text[at + 2] == c
 }
 
-// One byte more.
-fn step(p: Place, b: u8) -> Place
-    requires { ⌜ p .part ≤ 15 ⌝ }
-    ensures { λ r. ⌜ (from (r .mode) (r .part) ≡ moved b (p .mode) (drop (p .part) parts)) × (r .part ≤ 15) ⌝ }
+// Whether the text begins with `P6`.
+fn begins(text: &[u8]) -> bool
+    ensures { λ r. ⌜ Begins (now (text .entry)) r ⌝ }
 {
-    let part = p.part;
-    let mode = p.mode;
-    if part == 15 {
-        return Place { part, mode: 3 };
+    if text.len() < 2 {
+        return false;
     }
-    if mode == 0 {
-        return at_part(part, b);
+    if text[0] != b'P' {
+        return false;
     }
-    if mode == 1 {
-        return in_gap(part, b);
+    text[1] == b'6'
+}
+
+// Whether the text ends with one white space byte from a place on.
+fn ends(text: &[u8], at: usize) -> bool
+    requires { ⌜ at ≤ length (now text) ⌝ }
+    ensures { λ r. ⌜ goes (now (text .entry)) at 0 14 ≡ r ⌝ }
+{
+    if text.len() != at + 1 {
+        return false;
     }
-    if mode == 2 {
-        return in_comment(part, b);
-    }
-    p
+    is_white(text[at])
 }
 
 // Whether a text is a header.
 pub(crate) fn is_header(text: &[u8]) -> bool
     ensures { λ r. ⌜ r ≡ isHeader (now (text .entry)) ⌝ }
 {
-    let mut p = Place { part: 0, mode: 0 };
-    for i in 0..text.len() {
-        p = step(p, text[i]);
-    }
-    if p.mode != 0 {
+    if !begins(text) {
         return false;
     }
-    p.part == 15
+    let width = after_gap(text, 2);
+    if !has(text, width, b'1', b'2', b'8') {
+        return false;
+    }
+    let height = after_gap(text, width + 3);
+    if !has(text, height, b'1', b'2', b'8') {
+        return false;
+    }
+    let most = after_gap(text, height + 3);
+    if !has(text, most, b'2', b'5', b'5') {
+        return false;
+    }
+    ends(text, most + 3)
 }

@@ -1,70 +1,67 @@
--- `photos::header::is_header` meets its contract: the invariant: what is left of the text, read from the place reached, is the text's answer. Assumes nothing.
-use mathlib.Core.Path.{_≡_, refl, sym, ap, _∙_}
-use mathlib.Core.List.{List, [], _∷_}
-use Prim.Native.Nat.{ℕ, _+_, _-_, _≤_}
-use native.Mathlib.Numerals.{add-one}
+-- `photos::header::is_header` meets its contract: each part of it takes the text on to the next, or nothing is read. Assumes nothing.
+use mathlib.Core.Path.{_≡_, sym, _∙_}
+use mathlib.Core.Bool.{false}
+use Prim.Native.Nat.{_+_, _<_}
 use native.Mathlib.Omega.{arith}
-use lib.ListN.{length, getD, drop}
-use lib.Seq.{drop-cons, drop-length}
-use Rattle.photos.specs.Header.{parts}
-use Rattle.photos.specs.Aside.{reads, from, isHeader}
-use Rattle.photos.proofs.Bytewise.{reads-more, reads-end, finished-no, finished-part}
+use borrow.Author.Tests.{not-true, not-false}
 use borrow.Author.Needs.{needs}
+use lib.ListN.{length}
+use Rattle.photos.specs.Aside.{goes, isHeader}
+use Rattle.photos.proofs.Reader.{width-given, height-given, most-given, gaps}
 use Rattle.photos.proofs.header.is_header.Statement.{statement}
 use Rattle.photos.proofs.header.is_header.Tie as tie
 
-abbrev Inv-loop : tie.InvT-loop
-Inv-loop text p₀ i₀ i-end p i =
-    (i-end ≡ length text) × (i ≤ i-end) × (p .part ≤ 15) × (reads (drop i text) (from (p .mode) (p .part)) ≡ isHeader text)
+-- where the text has been read to: the place of each number, and after it
+width : (c : tie.After-after-gap) → isHeader (c .before .before .before .before .args .text .now) ≡ goes (c .before .before .before .before .args .text .now) (c .after-gap .result) 1 3
+width c = c .before .before .begins .ensures .yes (not-false _ (c .before .if1 .left)) ∙ c .after-gap .ensures .1 2 (omega arith) (gaps .0)
 
-abbrev μ-loop : tie.MeasureT-loop
-μ-loop text p₀ i₀ i-end p i = i-end - i
+after-width : (c : tie.Else2) → isHeader (c .before .before .before .before .before .before .args .text .now) ≡ goes (c .before .before .before .before .before .before .args .text .now) (c .before .before .after-gap .result + 3) 0 6
+after-width c = width (c .before .before) ∙ c .before .has .ensures .yes (not-false _ (c .if2 .left)) 3 width-given
 
-begins : (text : List ℕ) → reads (drop 0 text) (from 0 0) ≡ isHeader text
-unfolding isHeader
-begins text = refl
+height : (c : tie.After-after-gap2) → isHeader (c .before .before .before .before .before .before .before .args .text .now) ≡ goes (c .before .before .before .before .before .before .before .args .text .now) (c .after-gap2 .result) 1 7
+height c = after-width (c .before) ∙ c .after-gap2 .ensures .1 6 (omega arith) (gaps .1)
 
-loop-again : tie.Need-loop-again Inv-loop μ-loop
-loop-again c =
-    let l = c .before .before .before .loop in
-    let text = c .before .before .before .before .before .args .text .now in
-    let v = l .inv in (
-      v .0,
-      omega arith,
-      c .step .ensures .1,
-      ap (reads (drop (l .i + 1) text)) (c .step .ensures .0)
-          ∙ reads-more (from (l .p .mode) (l .p .part)) (getD text (l .i) 0) (drop (l .i + 1) text)
-          ∙ ap (λ (s : List ℕ). reads s (from (l .p .mode) (l .p .part))) (sym (rw add-one (drop-cons text (l .i) 0 (omega arith))))
-          ∙ v .3,
-    )
+after-height : (c : tie.Else3) → isHeader (c .before .before .before .before .before .before .before .before .before .args .text .now) ≡ goes (c .before .before .before .before .before .before .before .before .before .args .text .now) (c .before .before .after-gap2 .result + 3) 0 10
+after-height c = height (c .before .before) ∙ c .before .has2 .ensures .yes (not-false _ (c .if3 .left)) 7 height-given
 
--- at the end nothing is left of the text
-ends : (text : List ℕ) (i m n : ℕ) → i ≡ length text → reads (drop i text) (from m n) ≡ isHeader text → reads [] (from m n) ≡ isHeader text
-ends text i m n h e = rw (h, drop-length text) at e
+most : (c : tie.After-after-gap3) → isHeader (c .before .before .before .before .before .before .before .before .before .before .args .text .now) ≡ goes (c .before .before .before .before .before .before .before .before .before .before .args .text .now) (c .after-gap3 .result) 1 11
+most c = after-height (c .before) ∙ c .after-gap3 .ensures .1 10 (omega arith) (gaps .2)
 
-returns : tie.Need-returns Inv-loop μ-loop
-returns c =
-    let l = c .before .before .before .loop in
-    let v = l .inv in
-    sym (sym (ends _ (l .i) (l .p .mode) (l .p .part) (omega arith) (v .3)) ∙ reads-end (l .p .mode) (l .p .part) (v .2) ∙ finished-no (l .p .mode) _ (c .if1 .taken))
+after-most : (c : tie.Else4) → isHeader (c .before .before .before .before .before .before .before .before .before .before .before .before .args .text .now) ≡ goes (c .before .before .before .before .before .before .before .before .before .before .before .before .args .text .now) (c .before .before .after-gap3 .result + 3) 0 14
+after-most c = most (c .before .before) ∙ c .before .has3 .ensures .yes (not-false _ (c .if4 .left)) 11 most-given
 
-returns-2 : tie.Need-returns-2 Inv-loop μ-loop
-returns-2 c =
-    let l = c .before .before .before .before .loop in
-    let v = l .inv in
-    sym (sym (ends _ (l .i) (l .p .mode) (l .p .part) (omega arith) (v .3)) ∙ reads-end (l .p .mode) (l .p .part) (v .2) ∙ rw (c .before .if1 .left) (finished-part (l .p .part) (v .2)))
+returns : tie.Need-returns
+returns c = sym (c .before .begins .ensures .no (not-true _ (c .if1 .taken)))
+
+returns-2 : tie.Need-returns-2
+returns-2 c = sym (width (c .before .before) ∙ c .before .has .ensures .no (not-true _ (c .if2 .taken)) 3 width-given)
+
+returns-3 : tie.Need-returns-3
+returns-3 c = sym (height (c .before .before) ∙ c .before .has2 .ensures .no (not-true _ (c .if3 .taken)) 7 height-given)
+
+returns-4 : tie.Need-returns-4
+returns-4 c = sym (most (c .before .before) ∙ c .before .has3 .ensures .no (not-true _ (c .if4 .taken)) 11 most-given)
+
+returns-5 : tie.Need-returns-5
+returns-5 c = sym (after-most (c .before) ∙ c .ends .ensures)
 
 pub is-header-spec : {M : Type 1} → statement M
 is-header-spec =
     tie.close
     (tie.spec
-    Inv-loop
-    μ-loop
-    (λ c. (refl, omega arith, omega arith, begins _))
-    (λ c. omega arith)
-    (λ c κs. c .before .before .loop .inv .2)
-    (λ c. omega arith)
-    (λ c. omega arith)
-    loop-again
+    (λ c κs. search needs)
     returns
-    returns-2)
+    (λ c κs. c .before .begins .ensures .inside (not-false _ (c .if1 .left)))
+    (λ c κs. c .after-gap .ensures .0)
+    returns-2
+    (λ c. omega (arith, c .before .has .ensures .inside (not-false _ (c .if2 .left))))
+    (λ c κs. c .before .has .ensures .inside (not-false _ (c .if2 .left)))
+    (λ c κs. c .after-gap2 .ensures .0)
+    returns-3
+    (λ c. omega (arith, c .before .has2 .ensures .inside (not-false _ (c .if3 .left))))
+    (λ c κs. c .before .has2 .ensures .inside (not-false _ (c .if3 .left)))
+    (λ c κs. c .after-gap3 .ensures .0)
+    returns-4
+    (λ c. omega (arith, c .before .has3 .ensures .inside (not-false _ (c .if4 .left))))
+    (λ c κs. c .before .has3 .ensures .inside (not-false _ (c .if4 .left)))
+    returns-5)
