@@ -63,6 +63,13 @@ isHeader s = reads s (from 0 0)
 abbrev pub goes : List ℕ → ℕ → ℕ → ℕ → Bool
 goes text i mode n = reads (drop i text) (from mode n)
 
+-- from place i the text goes on, in some way, as from place j in a gap; and, where a gap is to come, as from place j in it
+abbrev pub Goes : List ℕ → ℕ → ℕ → ℕ → Type 0
+Goes text i mode j = (n : ℕ) → n < 15 → goes text i mode n ≡ goes text j 1 n
+
+abbrev pub Enters : List ℕ → ℕ → ℕ → Type 0
+Enters text i j = (n : ℕ) → n < 14 → getD parts n 0 ≡ 0 → goes text i 0 n ≡ goes text j 1 (n + 1)
+
 -- where a gap has ended: at the end of the text, or before a byte that is neither white space nor #
 pub record Next (text : List ℕ) (i : ℕ) : Type 0 where
   pub inside : i ≤ length text

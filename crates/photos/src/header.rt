@@ -1,10 +1,9 @@
 // The header of a photograph, read from the left: `P6`, 128, 128, 255, with white space and comments between.
 ghost use mathlib.Core.Path.{_≡_};
-ghost use mathlib.Core.Bool.{true, false};
-ghost use Prim.Native.Nat.{ℕ, _+_, _≤_, _<_};
-ghost use lib.ListN.{length, getD, drop};
-ghost use Rattle.photos.specs.Header.{isWhite, isEnd, parts};
-ghost use Rattle.photos.specs.Aside.{Next, Has, Begins, goes, isHeader};
+ghost use Prim.Native.Nat.{_≤_};
+ghost use lib.ListN.{length};
+ghost use Rattle.photos.specs.Header.{isWhite, isEnd};
+ghost use Rattle.photos.specs.Aside.{Next, Goes, Enters, Has, Begins, goes, isHeader};
 
 // White space: space, tab, LF, VT, FF, CR.
 fn is_white(b: u8) -> bool
@@ -32,7 +31,7 @@ fn is_end(b: u8) -> bool
 // Where a comment ends that has been entered: after the next LF or CR, or at the end of the text.
 fn comment_end(text: &[u8], from: usize) -> usize
     requires { ⌜ from ≤ length (now text) ⌝ }
-    ensures { λ r. ⌜ (from ≤ r) × (r ≤ length (now (text .entry))) × ((n : ℕ) → n < 15 → goes (now (text .entry)) from 2 n ≡ goes (now (text .entry)) r 1 n) ⌝ }
+    ensures { λ r. ⌜ (from ≤ r) × (r ≤ length (now (text .entry))) × Goes (now (text .entry)) from 2 r ⌝ }
 {
     let mut i = from;
     while i < text.len() {
@@ -47,7 +46,7 @@ fn comment_end(text: &[u8], from: usize) -> usize
 // Where a gap ends that has been entered: what comes next is neither white space nor a comment.
 fn gap_end(text: &[u8], from: usize) -> usize
     requires { ⌜ from ≤ length (now text) ⌝ }
-    ensures { λ r. ⌜ Next (now (text .entry)) r × ((n : ℕ) → n < 15 → goes (now (text .entry)) from 1 n ≡ goes (now (text .entry)) r 1 n) ⌝ }
+    ensures { λ r. ⌜ Next (now (text .entry)) r × Goes (now (text .entry)) from 1 r ⌝ }
 {
     let mut i = from;
     while i < text.len() {
@@ -67,7 +66,7 @@ fn gap_end(text: &[u8], from: usize) -> usize
 // Where a gap ends; the end of the text if there is none.
 fn after_gap(text: &[u8], from: usize) -> usize
     requires { ⌜ from ≤ length (now text) ⌝ }
-    ensures { λ r. ⌜ Next (now (text .entry)) r × ((n : ℕ) → n < 14 → getD parts n 0 ≡ 0 → goes (now (text .entry)) from 0 n ≡ goes (now (text .entry)) r 1 (n + 1)) ⌝ }
+    ensures { λ r. ⌜ Next (now (text .entry)) r × Enters (now (text .entry)) from r ⌝ }
 {
     if from < text.len() {
         if is_white(text[from]) {
