@@ -1,5 +1,5 @@
 // A script line, without its LF, to the frame that it says.
-use super::reader::read_number;
+use super::reader::numbers;
 ghost use mathlib.Core.Path.{_≡_};
 ghost use mathlib.Core.Bool.{true, _&&_};
 ghost use Prim.Native.Nat.{ℕ, _+_, _≤_, _<_};
@@ -167,7 +167,8 @@ fn read_line(line: &[u8]) -> Frame
     if line.len() != 6 {
         return Frame::Malformed;
     }
-    let address = read_number(line, 2, 4);
+    let read = numbers(line, 4, 0);
+    let address = read.first;
     let Number::Value(a) = address else {
         return Frame::Malformed;
     };
@@ -182,11 +183,12 @@ fn write_line(line: &[u8]) -> Frame
     if line.len() != 8 {
         return Frame::Malformed;
     }
-    let address = read_number(line, 2, 4);
+    let read = numbers(line, 4, 2);
+    let address = read.first;
     let Number::Value(a) = address else {
         return Frame::Malformed;
     };
-    let byte = read_number(line, 6, 2);
+    let byte = read.second;
     let Number::Value(b) = byte else {
         return Frame::Malformed;
     };
@@ -201,7 +203,8 @@ fn tick_line(line: &[u8]) -> Frame
     if line.len() != 10 {
         return Frame::Malformed;
     }
-    let count = read_number(line, 2, 8);
+    let read = numbers(line, 8, 0);
+    let count = read.first;
     let Number::Value(n) = count else {
         return Frame::Malformed;
     };
@@ -216,14 +219,15 @@ fn row_line(line: &[u8]) -> Frame
     if line.len() != 260 {
         return Frame::Malformed;
     }
-    let row = read_number(line, 2, 2);
+    let read = numbers(line, 2, 0);
+    let row = read.first;
     let Number::Value(y) = row else {
         return Frame::Malformed;
     };
     if 0x7F < y {
         return Frame::Malformed;
     }
-    if !all_hex(line, 4, 256) {
+    if !all_hex(line, read.at, 256) {
         return Frame::Malformed;
     }
     Frame::Row(y as u8)

@@ -12,6 +12,13 @@ pub struct LineReader<'a> {
     pub at: usize,
 }
 
+// Two numbers, one after the other, and where the reader stands after them.
+pub struct Reading {
+    pub first: Number,
+    pub second: Number,
+    pub at: usize,
+}
+
 // A reader at the start of a line.
 pub(crate) fn opened<'a>(line: &'a [u8]) -> LineReader<'a>
     ensures { λ r. ⌜ (r .line ≡ line .entry) × (r .at ≡ 0) ⌝ }
@@ -38,10 +45,29 @@ pub(crate) fn number<'a>(r: LineReader<'a>, n: usize) -> Number
     number_at(r.line, r.at, n)
 }
 
-// The number that n digits of a line, from `at` on, spell. Its parameters are plain, so its callers are covered.
-pub(crate) fn read_number(line: &[u8], at: usize, n: usize) -> Number
-    requires { ⌜ (at + n ≤ length (now line)) × (n ≤ 8) ⌝ }
-    ensures { λ r. ⌜ r ≡ numberOf (now (line .entry)) at n ⌝ }
+// Where the reader stands.
+pub(crate) fn place<'a>(r: LineReader<'a>) -> usize
+    ensures { λ v. ⌜ v ≡ r .entry .at ⌝ }
 {
-    number(moved(opened(line), at), n)
+    r.at
+}
+
+// What was read, and where the reader stands then.
+fn together(first: Number, second: Number, at: usize) -> Reading
+    ensures { λ r. ⌜ (r .first ≡ first) × (r .second ≡ second) × (r .at ≡ at) ⌝ }
+{
+    Reading { first, second, at }
+}
+
+// The numbers that the m digits after a line's kind and the n digits after these spell: at most eight each. The reader moves on as it
+// reads. Its parameters are plain, so its callers are covered.
+pub(crate) fn numbers(line: &[u8], m: usize, n: usize) -> Reading
+    requires { ⌜ (2 + m + n ≤ length (now line)) × (m ≤ 8) × (n ≤ 8) ⌝ }
+    ensures { λ r. ⌜ (r .first ≡ numberOf (now (line .entry)) 2 m) × (r .second ≡ numberOf (now (line .entry)) (2 + m) n) × (r .at ≡ 2 + m + n) ⌝ }
+{
+    let after_kind = moved(opened(line), 2);
+    let first = number(after_kind, m);
+    let after_first = moved(after_kind, m);
+    let second = number(after_first, n);
+    together(first, second, place(moved(after_first, n)))
 }

@@ -12,7 +12,7 @@ use Rattle.lines.proofs.line.read_line.Tie as tie
 
 -- the address that was read
 read : (c : tie.After-known-told) → Spells (c .before .before .before .before .before .before .args .line .now) 2 4 (c .before .address .given .0 .0)
-read c = some-of _ _ _ _ _ (c .before .before .before .read-number .ensures) (c .before .address .given .1)
+read c = some-of _ _ _ _ _ (c .before .before .before .numbers .ensures .0) (c .before .address .given .1)
 
 returns : tie.Need-returns
 unfolding spelled
@@ -23,7 +23,7 @@ returns-2 c =
     let s = c .before .before .before .before .before in
     let l = s .args .line .now in
     let e : length l ≡ 6 = omega arith in
-    sym (bad _ (rw e (hex-broken l 0 2 4 (s .pre .0) (none-of _ _ _ _ (c .before .before .read-number .ensures) (c .enum-told .given .1)))))
+    sym (bad _ (rw e (hex-broken l 0 2 4 (s .pre .0) (none-of _ _ _ _ (c .before .before .numbers .ensures .0) (c .enum-told .given .1)))))
 
 returns-3 : tie.Need-returns-3
 unfolding spelled

@@ -1,10 +1,10 @@
 -- `lines::line::row_line` meets its contract: the kind is known, and length, row and digits decide. Assumes nothing.
-use mathlib.Core.Path.{_≡_, sym, _∙_}
+use mathlib.Core.Path.{_≡_, sym, ap, _∙_}
 use native.Mathlib.Omega.{arith}
 use lib.ListN.{length}
 use borrow.Author.Tests.{eq-eqb, ne-eqb, le-leb, lt-leb, not-true, not-false}
 use borrow.Author.Needs.{needs}
-use Rattle.lines.specs.Line.{spelled}
+use Rattle.lines.specs.Line.{hexPart, spelled}
 use Rattle.lines.proofs.Digits.{Spells, none-of, some-of, hex-joined, hex-broken, hex-fails, and-false}
 use Rattle.lines.proofs.Frames.{wrong, bad, good}
 use Rattle.lines.proofs.line.row_line.Statement.{statement}
@@ -12,7 +12,13 @@ use Rattle.lines.proofs.line.row_line.Tie as tie
 
 -- the row that was read
 row : (c : tie.After-known-told) → Spells (c .before .before .before .before .before .before .args .line .now) 2 2 (c .before .row .given .0 .0)
-row c = some-of _ _ _ _ _ (c .before .before .before .read-number .ensures) (c .before .row .given .1)
+row c = some-of _ _ _ _ _ (c .before .before .before .numbers .ensures .0) (c .before .row .given .1)
+
+-- the image stands where the reader stands after the row
+image : (c : tie.After-all-hex) → c .all-hex .result ≡ hexPart (c .before .before .before .before .before .before .before .before .args .line .now) 4 256
+image c =
+    let l = c .before .before .before .before .before .before .before .before .args .line .now in
+    c .all-hex .ensures ∙ ap (λ i. hexPart l i 256) (c .before .before .before .before .before .numbers .ensures .2)
 
 returns : tie.Need-returns
 unfolding spelled
@@ -23,7 +29,7 @@ returns-2 c =
     let s = c .before .before .before .before .before in
     let l = s .args .line .now in
     let e : length l ≡ 260 = omega arith in
-    sym (bad _ (rw e (hex-fails l 0 4 256 (hex-broken l 0 2 2 (s .pre .0) (none-of _ _ _ _ (c .before .before .read-number .ensures) (c .enum-told .given .1))))))
+    sym (bad _ (rw e (hex-fails l 0 4 256 (hex-broken l 0 2 2 (s .pre .0) (none-of _ _ _ _ (c .before .before .numbers .ensures .0) (c .enum-told .given .1))))))
 
 returns-3 : tie.Need-returns-3
 unfolding spelled
@@ -36,7 +42,7 @@ returns-4 c =
     let s = c .before .before .before .before .before .before .before .before .before in
     let l = s .args .line .now in
     let e : length l ≡ 260 = omega arith in
-    sym (bad _ (rw e (hex-broken l 0 4 256 (hex-joined l 0 2 2 (s .pre .0) (row (c .before .before .before) .hex)) (sym (c .before .all-hex .ensures) ∙ not-true _ (c .if3 .taken)))))
+    sym (bad _ (rw e (hex-broken l 0 4 256 (hex-joined l 0 2 2 (s .pre .0) (row (c .before .before .before) .hex)) (sym (image (c .before)) ∙ not-true _ (c .if3 .taken)))))
 
 returns-5 : tie.Need-returns-5
 unfolding spelled
@@ -45,7 +51,7 @@ returns-5 c =
     let l = s .args .line .now in
     let e : length l ≡ 260 = omega arith in
     let y = row (c .before .before .before) in
-    sym (good _ (rw e (hex-joined l 0 4 256 (hex-joined l 0 2 2 (s .pre .0) (y .hex)) (sym (c .before .all-hex .ensures) ∙ not-false _ (c .if3 .left)))) ∙ simp (s .pre .1, eq-eqb _ _ e, ← y .is, le-leb _ 0x7F (c .before .before .if2 .left)))
+    sym (good _ (rw e (hex-joined l 0 4 256 (hex-joined l 0 2 2 (s .pre .0) (y .hex)) (sym (image (c .before)) ∙ not-false _ (c .if3 .left)))) ∙ simp (s .pre .1, eq-eqb _ _ e, ← y .is, le-leb _ 0x7F (c .before .before .if2 .left)))
 
 pub row-line-spec : {M : Type 1} → statement M
 row-line-spec =

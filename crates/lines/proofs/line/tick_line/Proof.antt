@@ -19,7 +19,7 @@ returns-2 c =
     let s = c .before .before .before .before .before in
     let l = s .args .line .now in
     let e : length l ≡ 10 = omega arith in
-    sym (bad _ (rw e (hex-broken l 0 2 8 (s .pre .0) (none-of _ _ _ _ (c .before .before .read-number .ensures) (c .enum-told .given .1)))))
+    sym (bad _ (rw e (hex-broken l 0 2 8 (s .pre .0) (none-of _ _ _ _ (c .before .before .numbers .ensures .0) (c .enum-told .given .1)))))
 
 returns-3 : tie.Need-returns-3
 unfolding spelled
@@ -27,7 +27,7 @@ returns-3 c =
     let s = c .before .before .before .before .before .before in
     let l = s .args .line .now in
     let e : length l ≡ 10 = omega arith in
-    let n = some-of _ _ _ _ _ (c .before .before .before .read-number .ensures) (c .before .count .given .1) in
+    let n = some-of _ _ _ _ _ (c .before .before .before .numbers .ensures .0) (c .before .count .given .1) in
     sym (good _ (rw e (hex-joined l 0 2 8 (s .pre .0) (n .hex))) ∙ simp (s .pre .1, eq-eqb _ _ e, n .is))
 
 pub tick-line-spec : {M : Type 1} → statement M
