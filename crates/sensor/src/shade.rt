@@ -6,7 +6,7 @@ ghost use lib.ListN.{length};
 ghost use Rattle.laws.specs.Pick.{pick};
 ghost use Rattle.lighting.specs.Aside.{Sane};
 ghost use Rattle.lighting.specs.Light.{Inside, byteAt};
-ghost use Rattle.sensor.specs.Shade.{valueAt, shadeOf};
+ghost use Rattle.sensor.specs.Shade.{valueAt, shadeBy, shadeOf};
 
 // The pixel's value, 0 to 255.
 pub(crate) fn value(store: &[u8], set: Setting, x: usize, row: usize) -> u8
@@ -27,6 +27,15 @@ pub fn either(t: bool, a: u8, b: u8) -> u8
     b
 }
 
+// The shade of a value by three thresholds: its high bit and its low bit, each by tests of its own, since a choice among four shades becomes branches.
+fn shade_by(v: u8, low: u8, mid: u8, high: u8) -> u8
+    ensures { λ r. ⌜ r ≡ shadeBy low mid high v ⌝ }
+{
+    let dark = either(v < low, 1, either(v < mid, 1, 0));
+    let odd = either(v < low, 1, either(v < mid, 0, either(v < high, 1, 0)));
+    2 * dark + odd
+}
+
 // Step 6: the shade of a value, by the matrix's element.
 pub fn shade(regs: &[u8], x: usize, row: usize, v: u8) -> u8
     requires { ⌜ length (now regs) ≡ 54 ⌝ }
@@ -36,5 +45,5 @@ pub fn shade(regs: &[u8], x: usize, row: usize, v: u8) -> u8
     let low = regs[at];
     let mid = regs[at + 1];
     let high = regs[at + 2];
-    either(v < low, 3, either(v < mid, 2, either(v < high, 1, 0)))
+    shade_by(v, low, mid, high)
 }
