@@ -17,6 +17,7 @@ impl Answer {
     /// # Panics
     ///
     /// If the number is none the interface has, which would be a fault of the archive.
+    #[inline]
     pub fn result(self) -> Result<u32, Refusal> {
         match (self.0 >> 32) as u32 {
             0 => Ok(self.0 as u32),
@@ -26,12 +27,14 @@ impl Answer {
 }
 
 /// Writes the reset record.
+#[inline]
 pub fn reset(state: &mut [u8]) -> Answer {
     // SAFETY: the pointer and length are those of one slice, borrowed for the call.
     Answer(unsafe { ffi::gulxinett_reset(state.as_mut_ptr(), state.len()) })
 }
 
 /// Reads the byte at an address; the value is the byte.
+#[inline]
 pub fn read(state: &[u8], rom: &[u8], ram: &[u8], address: u16) -> Answer {
     // SAFETY: each pointer and length are those of one slice, borrowed for the call.
     Answer(unsafe {
@@ -48,6 +51,7 @@ pub fn read(state: &[u8], rom: &[u8], ram: &[u8], address: u16) -> Answer {
 }
 
 /// Writes a byte to an address.
+#[inline]
 pub fn write(
     state: &mut [u8],
     ram: &mut [u8],
@@ -74,6 +78,7 @@ pub fn write(
 }
 
 /// Lets cycles pass; the value is the running cycles.
+#[inline]
 pub fn tick(state: &mut [u8], ram: &mut [u8], store: &[u8], cycles: u32) -> Answer {
     // SAFETY: each pointer and length are those of one slice, and the mutable ones are apart.
     Answer(unsafe {
@@ -91,6 +96,7 @@ pub fn tick(state: &mut [u8], ram: &mut [u8], store: &[u8], cycles: u32) -> Answ
 
 /// Chooses the matrix of a light set and a level, without its dithering unless `plain` is 0, and an exposure, which
 /// is unnamed if it is above FFFF; the value is 0.
+#[inline]
 pub fn choose(state: &mut [u8], light: u8, level: u8, plain: u8, exposure: u32) -> Answer {
     // SAFETY: the pointer and length are those of one slice, borrowed for the call.
     Answer(unsafe {
@@ -106,12 +112,14 @@ pub fn choose(state: &mut [u8], light: u8, level: u8, plain: u8, exposure: u32) 
 }
 
 /// Inspects the matrix; the value is 0, or 100h + 16 × row + column of the first reversed element.
+#[inline]
 pub fn inspect(state: &[u8]) -> Answer {
     // SAFETY: the pointer and length are those of one slice, borrowed for the call.
     Answer(unsafe { ffi::gulxinett_inspect(state.as_ptr(), state.len()) })
 }
 
 /// Draws the whole picture of a frame under the registers taken.
+#[inline]
 pub fn picture(
     frame: &[u8],
     registers: &[u8; REGISTERS],
@@ -130,24 +138,28 @@ pub fn picture(
 
 /// Writes a reset as a line of a bus script; the value is the line's length with its LF, here and
 /// below. Bytes of `out` beyond it stay, and a shorter `out` is refused as [`Refusal::Room`].
+#[inline]
 pub fn record_reset(out: &mut [u8]) -> Answer {
     // SAFETY: the pointer and length are those of one slice, borrowed for the call.
     Answer(unsafe { ffi::gulxinett_record_reset(out.as_mut_ptr(), out.len()) })
 }
 
 /// Writes a read as a line.
+#[inline]
 pub fn record_read(address: u16, out: &mut [u8]) -> Answer {
     // SAFETY: the pointer and length are those of one slice, borrowed for the call.
     Answer(unsafe { ffi::gulxinett_record_read(address, out.as_mut_ptr(), out.len()) })
 }
 
 /// Writes a write as a line.
+#[inline]
 pub fn record_write(address: u16, value: u8, out: &mut [u8]) -> Answer {
     // SAFETY: the pointer and length are those of one slice, borrowed for the call.
     Answer(unsafe { ffi::gulxinett_record_write(address, value, out.as_mut_ptr(), out.len()) })
 }
 
 /// Writes a tick as a line.
+#[inline]
 pub fn record_tick(cycles: u32, out: &mut [u8]) -> Answer {
     // SAFETY: the pointer and length are those of one slice, borrowed for the call.
     Answer(unsafe { ffi::gulxinett_record_tick(cycles, out.as_mut_ptr(), out.len()) })
@@ -155,6 +167,7 @@ pub fn record_tick(cycles: u32, out: &mut [u8]) -> Answer {
 
 /// Writes a row of the image as a line; a row above 7F or of another length than 128 bytes is
 /// refused as [`Refusal::Line`].
+#[inline]
 pub fn record_row(row: u8, bytes: &[u8], out: &mut [u8]) -> Answer {
     // SAFETY: each pointer and length are those of one slice, and the mutable one is apart.
     Answer(unsafe {
@@ -170,6 +183,7 @@ pub fn record_row(row: u8, bytes: &[u8], out: &mut [u8]) -> Answer {
 
 /// Writes the picture area as a Netpbm P5 file; the value is its length, 14,351. Bytes of `out` beyond
 /// it stay, and a shorter `out` is refused as [`Refusal::Room`].
+#[inline]
 pub fn export(ram: &[u8], out: &mut [u8]) -> Answer {
     // SAFETY: each pointer and length are those of one slice, and the mutable one is apart.
     Answer(unsafe { ffi::gulxinett_export(ram.as_ptr(), ram.len(), out.as_mut_ptr(), out.len()) })
@@ -178,6 +192,7 @@ pub fn export(ram: &[u8], out: &mut [u8]) -> Answer {
 /// Places a P5 file as [`export`] writes it in the picture area, whether or not RAM writing is enabled; the
 /// value is 0. A file of another kind is refused as [`Refusal::File`], any while a capture is held as
 /// [`Refusal::Held`].
+#[inline]
 pub fn place(state: &[u8], ram: &mut [u8], file: &[u8]) -> Answer {
     // SAFETY: each pointer and length are those of one slice, and the mutable one is apart.
     Answer(unsafe {
@@ -194,6 +209,7 @@ pub fn place(state: &[u8], ram: &mut [u8], file: &[u8]) -> Answer {
 
 /// Writes the picture area as shades, one a byte; the value is how many, 14,336. Bytes of `out` beyond them
 /// stay, and a shorter `out` is refused as [`Refusal::Room`].
+#[inline]
 pub fn shades(ram: &[u8], out: &mut [u8]) -> Answer {
     // SAFETY: each pointer and length are those of one slice, and the mutable one is apart.
     Answer(unsafe { ffi::gulxinett_shades(ram.as_ptr(), ram.len(), out.as_mut_ptr(), out.len()) })
@@ -202,6 +218,7 @@ pub fn shades(ram: &[u8], out: &mut [u8]) -> Answer {
 /// Writes the value of each picture pixel before the matrix, from the store and the registers taken of the
 /// capture held, as a Netpbm P5 file; the value is its length, 14,351. Bytes of `out` beyond it stay, a
 /// shorter `out` is refused as [`Refusal::Room`], and where no capture is held as [`Refusal::NotHeld`].
+#[inline]
 pub fn readings(state: &[u8], store: &[u8], out: &mut [u8]) -> Answer {
     // SAFETY: each pointer and length are those of one slice, and the mutable one is apart.
     Answer(unsafe {
@@ -218,6 +235,7 @@ pub fn readings(state: &[u8], store: &[u8], out: &mut [u8]) -> Answer {
 
 /// Reads a colour photograph, a Netpbm P6 file of 128 by 128 pixels, into an image; the value is 0. A file
 /// that is none is refused as [`Refusal::File`].
+#[inline]
 pub fn import_photo(file: &[u8], image: &mut [u8]) -> Answer {
     // SAFETY: each pointer and length are those of one slice, and the mutable one is apart.
     Answer(unsafe {
@@ -229,6 +247,7 @@ pub fn import_photo(file: &[u8], image: &mut [u8]) -> Answer {
 /// number of lines × 65,536 + the length of the text. Bytes of `text` and `report` beyond them stay. A
 /// longer script than 32,768 bytes is refused as [`Refusal::Script`], a shorter `text` or `report` as
 /// [`Refusal::Room`].
+#[inline]
 pub fn salvage(script: &[u8], text: &mut [u8], report: &mut [u8]) -> Answer {
     // SAFETY: each pointer and length are those of one slice, and the mutable ones are apart.
     Answer(unsafe {
@@ -245,6 +264,7 @@ pub fn salvage(script: &[u8], text: &mut [u8], report: &mut [u8]) -> Answer {
 
 /// Writes state, RAM and frame store as one save file; the value is its length, [`SAVE_BYTES`](crate::SAVE_BYTES)
 /// and the RAM's. Bytes of `out` beyond it stay, and a shorter `out` is refused as [`Refusal::Room`].
+#[inline]
 pub fn save(state: &[u8], ram: &[u8], store: &[u8], out: &mut [u8]) -> Answer {
     // SAFETY: each pointer and length are those of one slice, and the mutable one is apart.
     Answer(unsafe {
@@ -263,6 +283,7 @@ pub fn save(state: &[u8], ram: &[u8], store: &[u8], out: &mut [u8]) -> Answer {
 
 /// Reads a save file into state, RAM and frame store; the value is 0. A RAM of another length than the
 /// file's is refused as [`Refusal::Ram`], and what is not exactly a save as [`Refusal::File`].
+#[inline]
 pub fn restore(file: &[u8], state: &mut [u8], ram: &mut [u8], store: &mut [u8]) -> Answer {
     // SAFETY: each pointer and length are those of one slice, and the mutable ones are apart.
     Answer(unsafe {
@@ -282,6 +303,7 @@ pub fn restore(file: &[u8], state: &mut [u8], ram: &mut [u8], store: &mut [u8]) 
 /// Compares a picture area row by row with the picture of a frame under the registers taken: `rows` gets 1 for each
 /// of the 112 rows that is the same, 0 for another; the value is how many are. Bytes of `rows` beyond stay, and a
 /// shorter `rows` is refused as [`Refusal::Room`].
+#[inline]
 pub fn judge(
     area: &[u8; PICTURE_BYTES],
     frame: &[u8],
@@ -317,6 +339,7 @@ pub struct Session<'a> {
 
 /// Carries out a line of a bus script, without its LF, and writes its answer with the LF; the value is the answer's
 /// length. Bytes of `out` beyond it stay, and an `out` of fewer than 11 bytes is refused as [`Refusal::Room`].
+#[inline]
 pub fn step(session: Session, line: &[u8], out: &mut [u8]) -> Answer {
     // SAFETY: each pointer and length are those of one slice, and the mutable ones are apart.
     Answer(unsafe {
@@ -342,6 +365,7 @@ pub fn step(session: Session, line: &[u8], out: &mut [u8]) -> Answer {
 /// Audits a piece of a recording up to and with its first LF, or all of it; the value is how many bytes were read.
 /// Where a line ended, its event is written, if it makes one, and `book[0]` is the event's length. `book` has
 /// 13 numbers, `line` 261 bytes, `out` at least 512, or it is refused as [`Refusal::Room`].
+#[inline]
 pub fn audit(
     book: &mut [u64],
     line: &mut [u8],
@@ -376,6 +400,7 @@ pub fn audit(
 
 /// Ends the recording that is audited: writes the event of a last line without LF, and that a capture is held, where
 /// one is; the value is their length, as `book[0]` is.
+#[inline]
 pub fn audit_end(book: &mut [u64], line: &mut [u8], session: Session, out: &mut [u8]) -> Answer {
     // SAFETY: each pointer and length are those of one slice, and the mutable ones are apart.
     Answer(unsafe {
@@ -402,6 +427,7 @@ pub fn audit_end(book: &mut [u64], line: &mut [u8], session: Session, out: &mut 
 
 /// Writes the first stretch at or after a place of the RAM that is not as it was first, outside the picture area, as
 /// an event, or that nothing has changed; the value is the place after the stretch, `book[0]` the event's length.
+#[inline]
 pub fn audit_changed(
     book: &mut [u64],
     first: &[u8],
@@ -426,6 +452,7 @@ pub fn audit_changed(
 }
 
 /// Writes the summary of the recording that was audited; the value is its length, as `book[0]` is.
+#[inline]
 pub fn audit_summary(book: &mut [u64], state: &[u8], out: &mut [u8]) -> Answer {
     // SAFETY: each pointer and length are those of one slice, and the mutable ones are apart.
     Answer(unsafe {
