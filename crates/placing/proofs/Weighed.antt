@@ -1,22 +1,22 @@
--- Greys weighed: eight of them add up to a byte of bits. Assumes nothing.
-use mathlib.Core.Path.{_≡_, refl, sym, ap, ap₂, _∙_}
+-- Greys as bits: those of eight columns are a byte. Assumes nothing.
+use mathlib.Core.Path.{_≡_, refl, ap, _∙_}
 use mathlib.Core.Bool.{Bool, true, false, not, _&&_}
 use mathlib.Core.List.{List, [], _∷_}
-use Prim.Native.Nat.{ℕ, zero, suc, _+_, _-_, _*_, _/_, _%_, _^_, _<_, _≤_}
-use native.Mathlib.Nat.{add-zero}
+use Prim.Native.Nat.{ℕ, zero, suc, _+_, _*_, _/_, _%_, _<_, _≤_}
 use native.Mathlib.Omega.{arith}
 use lib.Bits.{bitAnd}
-use lib.Dec.{T, eqb, eqb→eq}
+use lib.Dec.{T, eqb, eqb→eq, lit<}
 use lib.ListN.{getD}
 use mir.Facts.{and-yes}
-use Rattle.laws.specs.Lists.{listed, packed}
+use Rattle.laws.specs.Lists.{listed}
 use Rattle.laws.specs.Pick.{pick}
-use Rattle.laws.proofs.Packed.{packed-ext, listed-at}
+use Rattle.laws.proofs.Packed.{listed-at}
 use Rattle.laws.proofs.Pick.{pick-ind}
 use Rattle.laws.proofs.Table.{at}
-use Rattle.shades.specs.Aside.{weightOf}
+use Rattle.strips.specs.Aside.{columnOf}
+use Rattle.strips.proofs.Columns.{column, all}
 use Rattle.placing.specs.Placing.{isGrey, onlyGreys, shadeOf}
-use Rattle.placing.specs.Aside.{lowsAt, highsAt, weighed, weighedAt, sumAt, Weighed}
+use Rattle.placing.specs.Aside.{lowsAt, highsAt, unset, unsetBits}
 use Rattle.placing.proofs.Each.{each-at}
 
 -- ---- one grey, by one test of all bytes
@@ -39,9 +39,6 @@ grey-test v h =
     (at (λ k x. pick (eqb k (85 * (k % 4))) (isGrey k) (not (isGrey k))) (none 256) tt v h)
 
 -- the bits of its shade are those that it has not
-abbrev unset : ℕ → ℕ → ℕ
-unset bit v = pick (eqb (bitAnd v bit) 0) 1 0
-
 grey-bits : (v : ℕ) → v < 256 → isGrey v ≡ true → (unset 1 v ≡ shadeOf v % 2) × (unset 2 v ≡ shadeOf v / 2)
 unfolding isGrey shadeOf none
 grey-bits v h g =
@@ -49,70 +46,32 @@ grey-bits v h g =
     let p = and-yes (eqb (unset 1 v) (shadeOf v % 2)) (eqb (unset 2 v) (shadeOf v / 2)) (rw g at t) in
     (eqb→eq (unset 1 v) (shadeOf v % 2) (p .0), eqb→eq (unset 2 v) (shadeOf v / 2) (p .1))
 
--- a bit times a weight
-times : (t : Bool) (w : ℕ) → pick t w 0 ≡ pick t 1 0 * w
-times true w = omega arith
-times false w = omega arith
+-- ---- a row that is turned
 
--- ---- a row
+-- what it has not is a bit
+pub unset-two : (bit : ℕ) (line : List ℕ) (p : ℕ) → unset bit (getD line p 0) < 2
+unset-two bit line p = pick-ind (λ n. n < 2) (eqb (bitAnd (getD line p 0) bit) 0) (λ _. lit< tt) (λ _. lit< tt)
 
--- nothing is more than its weight
-pub row-weighed : (bit at : ℕ) (pixels : List ℕ) {s : List ℕ} → s ≡ listed (weighedAt bit pixels at) 128 → Weighed s
-row-weighed bit at pixels e = record {
-  light = λ k h. rw (e, listed-at (weighedAt bit pixels at) 128 k h) (pick-ind (λ n. n ≤ weightOf k) (eqb (bitAnd (getD pixels (at + k) 0) bit) 0) (λ _. omega arith) (λ _. omega arith));
-}
+-- all eight are the bytes of a row of greys
+module _ (pixels : List ℕ) (bytes : (k : ℕ) → getD pixels k 0 < 256) (greys : onlyGreys pixels ≡ true) (at : ℕ) (inside : at + 128 ≤ 14336)
+    {row line : List ℕ} (copied : row ≡ listed (λ x. getD pixels (at + x) 0) 128) (made : line ≡ listed (λ p. getD row (columnOf p) 0) 128) where
+  grey : (t k : ℕ) → t < 16 → k < 8 → getD line (16 * k + t) 0 ≡ getD pixels (at + 8 * t + k) 0
+  grey t k h l =
+      let turned : getD line (16 * k + t) 0 ≡ getD row (columnOf (16 * k + t)) 0 = rw made (listed-at (λ p. getD row (columnOf p) 0) 128 (16 * k + t) (omega arith)) in
+      let taken : getD row (8 * t + k) 0 ≡ getD pixels (at + (8 * t + k)) 0 = rw copied (listed-at (λ x. getD pixels (at + x) 0) 128 (8 * t + k) (omega arith)) in
+      turned ∙ ap (λ (x : ℕ). getD row x 0) (column t k h) ∙ taken ∙ ap (λ (n : ℕ). getD pixels n 0) (omega arith)
 
--- the room that eight columns take
-pub record Room (s : List ℕ) (x : ℕ) : Type 0 where
-  pub a : getD s x 0 ≤ 128
-  pub b : getD s (x + 1) 0 ≤ 64
-  pub c : getD s (x + 2) 0 ≤ 32
-  pub d : getD s (x + 3) 0 ≤ 16
-  pub e : getD s (x + 4) 0 ≤ 8
-  pub f : getD s (x + 5) 0 ≤ 4
-  pub g : getD s (x + 6) 0 ≤ 2
-  pub h : getD s (x + 7) 0 ≤ 1
-
-pub room : (s : List ℕ) (x : ℕ) → x < 121 → x % 8 ≡ 0 → Weighed s → Room s x
-room s x l m w = record {
-  a = by 0 x (omega arith) (omega arith);
-  b = by 1 (x + 1) (omega arith) (omega arith);
-  c = by 2 (x + 2) (omega arith) (omega arith);
-  d = by 3 (x + 3) (omega arith) (omega arith);
-  e = by 4 (x + 4) (omega arith) (omega arith);
-  f = by 5 (x + 5) (omega arith) (omega arith);
-  g = by 6 (x + 6) (omega arith) (omega arith);
-  h = by 7 (x + 7) (omega arith) (omega arith);
-}
-  where
-    by : (k i : ℕ) → i % 8 ≡ k → i < 128 → getD s i 0 ≤ 2 ^ (7 - k)
-    by k i e l = rw e at (w .light i l)
-
--- bits f, weighed, add up to a byte of them
-sum-packed : (f : ℕ → ℕ) (s : List ℕ) (t : ℕ) → t < 16 → ((x : ℕ) → x < 128 → getD s x 0 ≡ f x * weightOf x) → sumAt s (8 * t) ≡ packed (λ b. f (8 * t + b)) 8
-unfolding packed
-sum-packed f s t h made =
-    omega (arith, by 0 (8 * t) (omega arith) (omega arith) (omega arith), by 1 (8 * t + 1) (omega arith) (omega arith) (omega arith), by 2 (8 * t + 2) (omega arith) (omega arith) (omega arith), by 3 (8 * t + 3) (omega arith) (omega arith) (omega arith), by 4 (8 * t + 4) (omega arith) (omega arith) (omega arith), by 5 (8 * t + 5) (omega arith) (omega arith) (omega arith), by 6 (8 * t + 6) (omega arith) (omega arith) (omega arith), by 7 (8 * t + 7) (omega arith) (omega arith) (omega arith))
-  where
-    by : (b x : ℕ) → x ≡ 8 * t + b → x % 8 ≡ b → x < 128 → getD s x 0 ≡ f (8 * t + b) * 2 ^ (7 - b)
-    by b x e m l = made x l ∙ ap₂ (λ (y k : ℕ). f y * 2 ^ (7 - k)) e m
-
--- those of a row of greys
-module _ (pixels : List ℕ) (bytes : (k : ℕ) → getD pixels k 0 < 256) (greys : onlyGreys pixels ≡ true) (at : ℕ) (inside : at + 128 ≤ 14336) where
-  bits : (x : ℕ) → x < 128 → (unset 1 (getD pixels (at + x) 0) ≡ shadeOf (getD pixels (at + x) 0) % 2) × (unset 2 (getD pixels (at + x) 0) ≡ shadeOf (getD pixels (at + x) 0) / 2)
+  bits : (t k : ℕ) → t < 16 → k < 8 → (unset 1 (getD line (16 * k + t) 0) ≡ shadeOf (getD pixels (at + 8 * t + k) 0) % 2) × (unset 2 (getD line (16 * k + t) 0) ≡ shadeOf (getD pixels (at + 8 * t + k) 0) / 2)
   unfolding onlyGreys
-  bits x h = grey-bits _ (bytes (at + x)) (each-at (λ k. isGrey (getD pixels k 0)) 14336 greys (at + x) (omega arith))
+  bits t k h l =
+      rw (grey t k h l) (grey-bits _ (bytes (at + 8 * t + k)) (each-at (λ k. isGrey (getD pixels k 0)) 14336 greys (at + 8 * t + k) (omega arith)))
 
-  pub low-sums : (s : List ℕ) → s ≡ listed (weighedAt 1 pixels at) 128 → (t : ℕ) → t < 16 → sumAt s (8 * t) ≡ lowsAt pixels (at + 8 * t)
+  pub low-all : {b : ℕ} {bytes : List ℕ} → b ≡ 8 → bytes ≡ listed (unsetBits 1 line b) 16 → bytes ≡ listed (λ t. lowsAt pixels (at + 8 * t)) 16
   unfolding lowsAt
-  low-sums s e t h =
-      sum-packed (λ x. shadeOf (getD pixels (at + x) 0) % 2) s t h
-      (λ x l. rw (e, listed-at (weighedAt 1 pixels at) 128 x l) (times (eqb (bitAnd (getD pixels (at + x) 0) 1) 0) (weightOf x) ∙ ap (λ (n : ℕ). n * weightOf x) (bits x l .0)))
-      ∙ packed-ext _ _ 8 (λ b l. ap (λ (n : ℕ). shadeOf (getD pixels n 0) % 2) (omega arith))
+  low-all =
+      all (λ p. unset 1 (getD line p 0)) (λ t k. shadeOf (getD pixels (at + 8 * t + k) 0) % 2) (λ t k h l. bits t k h l .0)
 
-  pub high-sums : (s : List ℕ) → s ≡ listed (weighedAt 2 pixels at) 128 → (t : ℕ) → t < 16 → sumAt s (8 * t) ≡ highsAt pixels (at + 8 * t)
+  pub high-all : {b : ℕ} {bytes : List ℕ} → b ≡ 8 → bytes ≡ listed (unsetBits 2 line b) 16 → bytes ≡ listed (λ t. highsAt pixels (at + 8 * t)) 16
   unfolding highsAt
-  high-sums s e t h =
-      sum-packed (λ x. shadeOf (getD pixels (at + x) 0) / 2) s t h
-      (λ x l. rw (e, listed-at (weighedAt 2 pixels at) 128 x l) (times (eqb (bitAnd (getD pixels (at + x) 0) 2) 0) (weightOf x) ∙ ap (λ (n : ℕ). n * weightOf x) (bits x l .1)))
-      ∙ packed-ext _ _ 8 (λ b l. ap (λ (n : ℕ). shadeOf (getD pixels n 0) / 2) (omega arith))
+  high-all =
+      all (λ p. unset 2 (getD line p 0)) (λ t k. shadeOf (getD pixels (at + 8 * t + k) 0) / 2) (λ t k h l. bits t k h l .1)

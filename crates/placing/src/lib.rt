@@ -10,15 +10,15 @@ use plates::grey::HEADER;
 ghost use mathlib.Core.Path.{_≡_};
 ghost use mathlib.Core.Bool.{true};
 ghost use mathlib.Core.List.{[]};
-ghost use Prim.Native.Nat.{_+_, _*_, _%_, _<_, _≤_};
+ghost use Prim.Native.Nat.{_+_, _*_, _<_, _≤_};
 ghost use lib.Dec.{eqb};
 ghost use lib.ListN.{length, getD};
 ghost use Rattle.laws.specs.Lists.{listed};
-ghost use Rattle.shades.specs.Aside.{weightOf};
+ghost use Rattle.strips.specs.Aside.{placeOf};
 ghost use Rattle.controller.specs.Outcome.{verdictNumber, writeNumber, outcome};
 ghost use Rattle.controller.specs.Table.{lowest};
 ghost use Rattle.placing.specs.Placing.{each, hasHeader, isGrey, onlyGreys, isPlate, placedArea, placeRows, placeMeans};
-ghost use Rattle.placing.specs.Aside.{lowsAt, highsAt, weighed, weighedAt, sumAt, Weighed};
+ghost use Rattle.placing.specs.Aside.{lowsAt, highsAt, unset, unsetBits};
 
 // The end of the picture area in RAM bank 0.
 const END: usize = 0xF00;
@@ -78,7 +78,7 @@ fn is_plate(file: &[u8]) -> bool
 
 // What a grey adds to a byte: a bit of its shade is set where that bit of the grey is not.
 fn weigh(grey: u8, bit: u8, weight: u8) -> u8
-    ensures { λ r. ⌜ r ≡ weighed bit grey weight ⌝ }
+    ensures { λ r. ⌜ r ≡ unset bit grey * weight ⌝ }
 {
     if grey & bit == 0 {
         return weight;
@@ -86,25 +86,31 @@ fn weigh(grey: u8, bit: u8, weight: u8) -> u8
     0
 }
 
-// What each pixel of a row adds to its byte of low bits and to its byte of high bits.
-fn weigh_row(pixels: &[u8], weights: &[u8; 128], at: usize, low: &mut [u8], high: &mut [u8])
+// A row of pixels, from a place on.
+fn row_of(pixels: &[u8], at: usize) -> [u8; 128]
     requires { ⌜ (at + 128 ≤ length (now pixels)) × (at < 14336) ⌝ }
-    requires { ⌜ (now weights ≡ listed weightOf 128) × (length (now low) ≡ 128) × (length (now high) ≡ 128) ⌝ }
-    ensures { λ _. ⌜ (now (low .exit) ≡ listed (weighedAt 1 (now (pixels .entry)) at) 128)
-        × (now (high .exit) ≡ listed (weighedAt 2 (now (pixels .entry)) at) 128) ⌝ }
+    ensures { λ r. ⌜ r ≡ listed (λ x. getD (now (pixels .entry)) (at + x) 0) 128 ⌝ }
 {
+    let mut out = [0u8; 128];
     for x in 0..128 {
-        low[x] = weigh(pixels[at + x], 1, weights[x]);
-        high[x] = weigh(pixels[at + x], 2, weights[x]);
+        out[x] = pixels[at + x];
     }
+    out
 }
 
-// The sum of what eight pixels add.
-fn sum_of(s: &[u8; 128], x: usize) -> u8
-    requires { ⌜ (x < 121) × (x % 8 ≡ 0) × Weighed (now s) ⌝ }
-    ensures { λ r. ⌜ r ≡ sumAt (now (s .entry)) x ⌝ }
+// Adds the bits of one column more, the b-th of each of sixteen tiles, to the bytes of those before it: w is their weight. The columns are turned, as
+// where shades are made.
+fn add_column(turned: &[u8; 128], b: usize, w: u8, low: &mut [u8; 16], high: &mut [u8; 16])
+    requires { ⌜ (b < 8) × (w ≡ placeOf (b + 1)) ⌝ }
+    requires { ⌜ (now low ≡ listed (unsetBits 1 (now turned) b) 16) × (now high ≡ listed (unsetBits 2 (now turned) b) 16) ⌝ }
+    ensures { λ _. ⌜ (now (low .exit) ≡ listed (unsetBits 1 (now (turned .entry)) (b + 1)) 16)
+        × (now (high .exit) ≡ listed (unsetBits 2 (now (turned .entry)) (b + 1)) 16) ⌝ }
 {
-    s[x] + s[x + 1] + s[x + 2] + s[x + 3] + s[x + 4] + s[x + 5] + s[x + 6] + s[x + 7]
+    for t in 0..16 {
+        let v = turned[16 * b + t];
+        low[t] = low[t] + weigh(v, 1, w);
+        high[t] = high[t] + weigh(v, 2, w);
+    }
 }
 
 // A row's sixteen bytes of low bits, and of high bits.
@@ -113,40 +119,36 @@ struct Sixteen {
     high: [u8; 16],
 }
 
-fn sums(low: &[u8; 128], high: &[u8; 128]) -> Sixteen
-    requires { ⌜ Weighed (now low) × Weighed (now high) ⌝ }
-    ensures { λ r. ⌜ (r .low ≡ listed (λ t. sumAt (now (low .entry)) (8 * t)) 16) × (r .high ≡ listed (λ t. sumAt (now (high .entry)) (8 * t)) 16) ⌝ }
-{
-    let mut l = [0u8; 16];
-    let mut h = [0u8; 16];
-    for t in 0..16 {
-        l[t] = sum_of(low, 8 * t);
-        h[t] = sum_of(high, 8 * t);
-    }
-    Sixteen { low: l, high: h }
-}
-
 // Those of the row of greys from a place on, the first pixel's bits the highest.
-fn pack(pixels: &[u8], weights: &[u8; 128], at: usize) -> Sixteen
+fn pack(pixels: &[u8], at: usize) -> Sixteen
     requires { ⌜ (length (now pixels) ≡ 14336) × (at + 128 ≤ 14336) ⌝ }
-    requires { ⌜ (now weights ≡ listed weightOf 128) × (onlyGreys (now pixels) ≡ true) ⌝ }
+    requires { ⌜ onlyGreys (now pixels) ≡ true ⌝ }
     ensures { λ r. ⌜ (r .low ≡ listed (λ t. lowsAt (now (pixels .entry)) (at + 8 * t)) 16)
         × (r .high ≡ listed (λ t. highsAt (now (pixels .entry)) (at + 8 * t)) 16) ⌝ }
 {
-    let mut low = [0u8; 128];
-    let mut high = [0u8; 128];
-    weigh_row(pixels, weights, at, &mut low, &mut high);
-    sums(&low, &high)
+    let row = row_of(pixels, at);
+    let turned = strips::turn(&row);
+    let mut low = [0u8; 16];
+    let mut high = [0u8; 16];
+    let mut w = 128u8;
+    for b in 0..8 {
+        add_column(&turned, b, w, &mut low, &mut high);
+        w = w / 2;
+    }
+    Sixteen {
+        low: low,
+        high: high,
+    }
 }
 
 // The area's bytes, row by row of the picture.
-fn put_rows(pixels: &[u8], weights: &[u8; 128], area: &mut [u8])
+fn put_area(pixels: &[u8], area: &mut [u8])
     requires { ⌜ (length (now pixels) ≡ 14336) × (length (now area) ≡ 3584) ⌝ }
-    requires { ⌜ (now weights ≡ listed weightOf 128) × (onlyGreys (now pixels) ≡ true) ⌝ }
+    requires { ⌜ onlyGreys (now pixels) ≡ true ⌝ }
     ensures { λ _. ⌜ now (area .exit) ≡ placedArea (now (pixels .entry)) ⌝ }
 {
     for y in 0..112 {
-        let row = pack(pixels, weights, 128 * y);
+        let row = pack(pixels, 128 * y);
         let low = row.low;
         let high = row.high;
         for t in 0..16 {
@@ -156,15 +158,6 @@ fn put_rows(pixels: &[u8], weights: &[u8; 128], area: &mut [u8])
             area[p] = high[t];
         }
     }
-}
-
-fn put_area(pixels: &[u8], area: &mut [u8])
-    requires { ⌜ (length (now pixels) ≡ 14336) × (length (now area) ≡ 3584) ⌝ }
-    requires { ⌜ onlyGreys (now pixels) ≡ true ⌝ }
-    ensures { λ _. ⌜ now (area .exit) ≡ placedArea (now (pixels .entry)) ⌝ }
-{
-    let columns = shades::weights();
-    put_rows(pixels, &columns, area);
 }
 
 // What a placing was lent, judged.

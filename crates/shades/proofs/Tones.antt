@@ -2,7 +2,7 @@
 use mathlib.Core.Path.{_≡_, refl, ap, ap₂, _∙_}
 use mathlib.Core.Bool.{Bool, true, false}
 use mathlib.Core.List.{List, [], _∷_}
-use Prim.Native.Nat.{ℕ, zero, suc, _+_, _-_, _*_, _/_, _%_, _^_, _<_, _≤_}
+use Prim.Native.Nat.{ℕ, zero, suc, _+_, _-_, _*_, _/_, _%_, _<_, _≤_}
 use native.Mathlib.Nat.{mul-le-mul-left, mul-le-mul-right}
 use native.Mathlib.Omega.{arith}
 use lib.Dec.{T, eqb, eqb→eq}
@@ -12,19 +12,11 @@ use Rattle.laws.specs.Lists.{listed}
 use Rattle.laws.specs.Pick.{pick}
 use Rattle.laws.proofs.Filled.{Filled, filled-first, filled-more, filled-to}
 use Rattle.laws.proofs.Packed.{listed-ext}
-use Rattle.laws.proofs.Table.{every, at, is}
+use Rattle.laws.proofs.Table.{every, at}
 use Rattle.lighting.specs.Light.{turned}
 use Rattle.tiles.specs.Tiles.{place, shadeIn}
 use Rattle.shades.specs.Shades.{shadeNth}
-use Rattle.shades.specs.Aside.{weightOf, eightOf, bitsOf, Built, Weight, putEight, toneNth, Eight, eightBy}
-
--- ---- one bit
-
--- the weight of bit b of the eight of byte t
-pub eight-weight : (t b : ℕ) → b < 8 → getD (128 ∷ 64 ∷ 32 ∷ 16 ∷ 8 ∷ 4 ∷ 2 ∷ 1 ∷ []) b 0 ≡ weightOf (8 * t + b)
-eight-weight t b h =
-    let e : (8 * t + b) % 8 ≡ b = omega arith in
-    rw e (is (λ b. 2 ^ (7 - b)) (128 ∷ 64 ∷ 32 ∷ 16 ∷ 8 ∷ 4 ∷ 2 ∷ 1 ∷ []) tt b h)
+use Rattle.shades.specs.Aside.{eightOf, bitsOf, Built, Weight, putEight, toneNth, Eight, eightBy}
 
 -- ---- eight bytes as one number
 

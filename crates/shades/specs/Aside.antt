@@ -3,16 +3,12 @@
 use mathlib.Core.Path.{_≡_}
 use mathlib.Core.Bool.{Bool}
 use mathlib.Core.List.{List}
-use Prim.Native.Nat.{ℕ, _+_, _-_, _*_, _/_, _%_, _^_, _<_, _≤_}
+use Prim.Native.Nat.{ℕ, _+_, _-_, _*_, _/_, _%_, _<_, _≤_}
 use lib.ListN.{length, getD, set}
 use Rattle.laws.specs.Bits.{bitOf}
 use Rattle.laws.specs.Pick.{pick}
 use Rattle.lighting.specs.Light.{turned}
 use Rattle.tiles.specs.Tiles.{place}
-
--- the weight of a column's bit in its byte
-abbrev pub weightOf : ℕ → ℕ
-weightOf x = 2 ^ (7 - x % 8)
 
 -- eight bytes as one number, the first the lowest
 unfoldable pub eightOf : (ℕ → ℕ) → ℕ

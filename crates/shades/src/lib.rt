@@ -12,28 +12,12 @@ ghost use Rattle.laws.specs.Pick.{pick};
 ghost use Rattle.controller.specs.Outcome.{verdictNumber};
 ghost use Rattle.controller.specs.Table.{lowest};
 ghost use Rattle.shades.specs.Shades.{shadeNth, outputNumber, outputValue, exported, shadesRows, shadesMeans};
-ghost use Rattle.shades.specs.Aside.{weightOf, Built, Weight, Low, Eight, putEight, toneNth};
+ghost use Rattle.shades.specs.Aside.{Built, Weight, Low, Eight, putEight, toneNth};
 
 // How many bytes were written, or why none.
 pub enum Output {
     Bytes(u32),
     Refused(Refusal),
-}
-
-// The weights of a byte's bits, the first pixel's the highest.
-const EIGHT: [u8; 8] = [128, 64, 32, 16, 8, 4, 2, 1];
-
-// The weight that each column's bit has in its byte.
-pub fn weights() -> [u8; 128]
-    ensures { λ r. ⌜ r ≡ listed weightOf 128 ⌝ }
-{
-    let mut out = [0u8; 128];
-    for t in 0..16 {
-        for b in 0..8 {
-            out[8 * t + b] = EIGHT[b];
-        }
-    }
-    out
 }
 
 // The bytes from w to twice w, where w has one bit: each adds what that bit is to a byte below w.

@@ -15,7 +15,7 @@ use Rattle.laws.proofs.Order.{split}
 use Rattle.laws.proofs.Packed.{packed-ext, listed-length, listed-at, listed-ext}
 use Rattle.laws.proofs.Filled.{Filled, filled-all, filled-more}
 use Rattle.sensor.specs.Shade.{shadeBy, element, shadeOf}
-use Rattle.strips.specs.Aside.{columnOf, thresholdAt, spreadOf, turnedShade, placeOf, lowBits, highBits, lowOf, highOf}
+use Rattle.strips.specs.Aside.{columnOf, thresholdAt, spreadOf, turnedShade, placeOf, bitsOf, lowBits, highBits, lowOf, highOf}
 
 -- ---- one column: the tests that a shade is made of, made of its bits
 
@@ -109,53 +109,52 @@ module _ (f : ℕ → ℕ) (two : (k : ℕ) → f k < 2) where
   bit-light : (k w : ℕ) → f k * w ≤ w
   bit-light k w = split (f k) 1 (λ l. let e : f k ≡ 0 = omega arith in rw e (omega arith)) (λ l. let e : f k ≡ 1 = omega (arith, two k) in rw e (omega arith))
 
--- bits f of the columns of each tile
-module _ (f : ℕ → ℕ → ℕ) (two : (t k : ℕ) → f t k < 2) {b w : ℕ} (h : b < 8) (weight : w ≡ placeOf (b + 1)) where
-  abbrev Next : ℕ → List ℕ → Type 0
-  Next = Moved (λ t. packed (f t) b * placeOf b) (λ t. packed (f t) (b + 1) * placeOf (b + 1)) 16
+-- bits f, each of a place of a row that is turned: the tiles before t have those of column b, and the others those before it
+abbrev pub Next : (ℕ → ℕ) → ℕ → ℕ → List ℕ → Type 0
+Next f b = Moved (bitsOf f b) (bitsOf f (b + 1)) 16
 
-  module _ {was : List ℕ} {t v : ℕ} (r : Next t was) (inside : t < 16) (e : v ≡ f t b * w) where
-    column-room : getD was t 0 + v < 256
-    column-room = omega (arith, r .left t (omega arith) inside, bits-room (f t) (two t) b h, rw weight at e, bit-light (f t) (two t) b (placeOf (b + 1)))
+module _ (f : ℕ → ℕ) (two : (p : ℕ) → f p < 2) {b w : ℕ} (h : b < 8) (weight : w ≡ placeOf (b + 1)) {was : List ℕ} {t v : ℕ} where
+  pub column-room : Next f b t was → t < 16 → v ≡ f (16 * b + t) * w → getD was t 0 + v < 256
+  column-room r inside e =
+      omega (arith, r .left t (omega arith) inside, bits-room (λ k. f (16 * k + t)) (λ k. two (16 * k + t)) b h, rw weight at e, bit-light (λ k. f (16 * k + t)) (λ k. two (16 * k + t)) b (placeOf (b + 1)))
 
-    column-next : Next (t + 1) (set was t (getD was t 0 + v))
-    column-next = moved-more _ _ _ r inside (ap₂ (λ (x y : ℕ). x + y) (r .left t (omega arith) inside) (rw weight at e) ∙ bits-next (f t) (two t) b h)
+  pub column-next : Next f b t was → t < 16 → v ≡ f (16 * b + t) * w → Next f b (t + 1) (set was t (getD was t 0 + v))
+  column-next r inside e =
+      moved-more _ _ _ r inside (ap₂ (λ (x y : ℕ). x + y) (r .left t (omega arith) inside) (rw weight at e) ∙ bits-next (λ k. f (16 * k + t)) (λ k. two (16 * k + t)) b h)
 
--- no bits, and all eight
-pub none : (f : ℕ → ℕ → ℕ) {bytes : List ℕ} → bytes ≡ listed (λ _. 0) 16 → bytes ≡ listed (λ t. packed (f t) 0 * placeOf 0) 16
-unfolding packed
-none f e = e
-
-all : (f : ℕ → ℕ → ℕ) {b : ℕ} {bytes : List ℕ} → b ≡ 8 → bytes ≡ listed (λ t. packed (f t) b * placeOf b) 16 → bytes ≡ listed (λ t. packed (f t) 8) 16
-all f e m = rw e at m ∙ listed-ext _ _ 16 (λ t _. omega arith)
+-- all eight, as they are by the columns of each tile
+pub all : (f : ℕ → ℕ) (g : ℕ → ℕ → ℕ) → ((t k : ℕ) → t < 16 → k < 8 → f (16 * k + t) ≡ g t k) → {b : ℕ} {bytes : List ℕ} → b ≡ 8
+    → bytes ≡ listed (bitsOf f b) 16 → bytes ≡ listed (λ t. packed (g t) 8) 16
+all f g same e m = rw e at m ∙ listed-ext _ _ 16 (λ t h. let p = packed-ext (λ k. f (16 * k + t)) (g t) 8 (λ k l. same t k h l) in omega arith)
 
 module _ (values matrix : List ℕ) (at : ℕ) where
-  shade-two : (t k : ℕ) → turnedShade values matrix at (16 * k + t) / 2 < 2
+  low-two : (p : ℕ) → turnedShade values matrix at p % 2 < 2
+  low-two p = omega arith
+
+  shade-two : (p : ℕ) → turnedShade values matrix at p / 2 < 2
   unfolding turnedShade
-  shade-two t k =
-      let p = 16 * k + t in
+  shade-two p =
       let v = getD values p 0 in
       high-two (ltb v (getD matrix (at + p) 0)) (ltb v (getD matrix (at + p + 512) 0)) (ltb v (getD matrix (at + p + 1024) 0))
 
-  -- the tiles before t have the bits of column b, and the others those before it
   abbrev pub Low : ℕ → ℕ → List ℕ → Type 0
-  Low b = Moved (lowBits values matrix at b) (lowBits values matrix at (b + 1)) 16
+  Low = Next (λ p. turnedShade values matrix at p % 2)
 
   abbrev pub High : ℕ → ℕ → List ℕ → Type 0
-  High b = Moved (highBits values matrix at b) (highBits values matrix at (b + 1)) 16
+  High = Next (λ p. turnedShade values matrix at p / 2)
 
   module _ {b w : ℕ} (h : b < 8) (weight : w ≡ placeOf (b + 1)) {was : List ℕ} {t v : ℕ} where
     pub low-room : Low b t was → t < 16 → v ≡ turnedShade values matrix at (16 * b + t) % 2 * w → getD was t 0 + v < 256
-    low-room = column-room (λ t k. turnedShade values matrix at (16 * k + t) % 2) (λ t k. omega arith) h weight
+    low-room = column-room (λ p. turnedShade values matrix at p % 2) low-two h weight
 
     pub low-next : Low b t was → t < 16 → v ≡ turnedShade values matrix at (16 * b + t) % 2 * w → Low b (t + 1) (set was t (getD was t 0 + v))
-    low-next = column-next (λ t k. turnedShade values matrix at (16 * k + t) % 2) (λ t k. omega arith) h weight
+    low-next = column-next (λ p. turnedShade values matrix at p % 2) low-two h weight
 
     pub high-room : High b t was → t < 16 → v ≡ turnedShade values matrix at (16 * b + t) / 2 * w → getD was t 0 + v < 256
-    high-room = column-room (λ t k. turnedShade values matrix at (16 * k + t) / 2) shade-two h weight
+    high-room = column-room (λ p. turnedShade values matrix at p / 2) shade-two h weight
 
     pub high-next : High b t was → t < 16 → v ≡ turnedShade values matrix at (16 * b + t) / 2 * w → High b (t + 1) (set was t (getD was t 0 + v))
-    high-next = column-next (λ t k. turnedShade values matrix at (16 * k + t) / 2) shade-two h weight
+    high-next = column-next (λ p. turnedShade values matrix at p / 2) shade-two h weight
 
 -- ---- the matrix spread: a row of thresholds of it, from eight columns to all
 
@@ -171,6 +170,10 @@ spread-at regs j x {four} {line} h e f =
     p ∙ q ∙ ap (λ (n : ℕ). getD regs n 0) (rw (a, b, c) (omega arith))
 
 -- ---- a row that is turned
+
+-- where column b of tile t stands
+pub column : (t b : ℕ) → t < 16 → columnOf (16 * b + t) ≡ 8 * t + b
+column t b h = omega arith
 
 -- which of four columns stands at place p
 in-four : (p : ℕ) → columnOf p % 4 ≡ p / 16 % 4
@@ -237,21 +240,15 @@ module _ (values regs : List ℕ) (row : ℕ) where
         let v : getD line p 0 ≡ getD values (columnOf p) 0 = rw made (listed-at (λ p. getD values (columnOf p) 0) 128 p h) in
         rw (l, m, n, v)
 
-    -- column b of tile t
-    column : (t b : ℕ) → t < 16 → columnOf (16 * b + t) ≡ 8 * t + b
-    column t b h = omega arith
-
     shade : (t b : ℕ) → t < 16 → b < 8 → turnedShade line matrix at (16 * b + t) ≡ shadeOf regs (8 * t + b) row (getD values (8 * t + b) 0)
     shade t b h l = same (16 * b + t) (omega arith) ∙ ap (λ (x : ℕ). shadeOf regs x row (getD values x 0)) (column t b h)
 
     pub low-all : {b : ℕ} {bytes : List ℕ} → b ≡ 8 → bytes ≡ listed (lowBits line matrix at b) 16 → bytes ≡ listed (lowOf values regs row) 16
     unfolding lowOf
-    low-all e m =
-        all (λ t k. turnedShade line matrix at (16 * k + t) % 2) e m
-        ∙ listed-ext _ _ 16 (λ t h. packed-ext _ _ 8 (λ b l. ap (λ (s : ℕ). s % 2) (shade t b h l)))
+    low-all =
+        all (λ p. turnedShade line matrix at p % 2) (λ t b. shadeOf regs (8 * t + b) row (getD values (8 * t + b) 0) % 2) (λ t b h l. ap (λ (s : ℕ). s % 2) (shade t b h l))
 
     pub high-all : {b : ℕ} {bytes : List ℕ} → b ≡ 8 → bytes ≡ listed (highBits line matrix at b) 16 → bytes ≡ listed (highOf values regs row) 16
     unfolding highOf
-    high-all e m =
-        all (λ t k. turnedShade line matrix at (16 * k + t) / 2) e m
-        ∙ listed-ext _ _ 16 (λ t h. packed-ext _ _ 8 (λ b l. ap (λ (s : ℕ). s / 2) (shade t b h l)))
+    high-all =
+        all (λ p. turnedShade line matrix at p / 2) (λ t b. shadeOf regs (8 * t + b) row (getD values (8 * t + b) 0) / 2) (λ t b h l. ap (λ (s : ℕ). s / 2) (shade t b h l))

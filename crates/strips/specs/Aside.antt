@@ -33,9 +33,13 @@ turnedShade values matrix at p =
 abbrev pub placeOf : ℕ → ℕ
 placeOf b = getD (256 ∷ 128 ∷ 64 ∷ 32 ∷ 16 ∷ 8 ∷ 4 ∷ 2 ∷ 1 ∷ []) b 0
 
--- the low bits of the first b columns of tile t where they stand in its byte, and the high bits
+-- bits f, each of a place of a row that is turned: those of the first b columns of tile t where they stand in its byte
+abbrev pub bitsOf : (ℕ → ℕ) → ℕ → ℕ → ℕ
+bitsOf f b t = packed (λ k. f (16 * k + t)) b * placeOf b
+
+-- the low bits, and the high bits
 abbrev pub lowBits : List ℕ → List ℕ → ℕ → ℕ → ℕ → ℕ
-lowBits values matrix at b t = packed (λ k. turnedShade values matrix at (16 * k + t) % 2) b * placeOf b
+lowBits values matrix at = bitsOf (λ p. turnedShade values matrix at p % 2)
 
 abbrev pub highBits : List ℕ → List ℕ → ℕ → ℕ → ℕ → ℕ
-highBits values matrix at b t = packed (λ k. turnedShade values matrix at (16 * k + t) / 2) b * placeOf b
+highBits values matrix at = bitsOf (λ p. turnedShade values matrix at p / 2)

@@ -60,7 +60,7 @@ fn interleave(a: &[u8; 128]) -> [u8; 128]
 }
 
 // A row of values, turned: four such steps.
-fn turn(values: &[u8; 128]) -> [u8; 128]
+pub fn turn(values: &[u8; 128]) -> [u8; 128]
     ensures { λ r. ⌜ r ≡ listed (λ p. getD (now (values .entry)) (columnOf p) 0) 128 ⌝ }
 {
     let once = interleave(values);

@@ -3,9 +3,9 @@ use mathlib.Core.Path.{_≡_, refl, ap, _∙_}
 use Prim.Native.Nat.{ℕ, _+_, _-_, _/_, _≤_}
 use native.Mathlib.Omega.{arith}
 use borrow.Author.Needs.{needs}
-use Rattle.laws.specs.Lists.{listed}
+use Rattle.laws.specs.Lists.{listed, packed}
 use Rattle.strips.specs.Aside.{placeOf, lowBits, highBits}
-use Rattle.strips.proofs.Columns.{none, next-weight, low-all, high-all}
+use Rattle.strips.proofs.Columns.{next-weight, low-all, high-all}
 use Rattle.strips.proofs.shade_row.Statement.{statement}
 use Rattle.strips.proofs.shade_row.Tie as tie
 
@@ -15,6 +15,10 @@ Inv-loop values matrix regs row low₀ high₀ turned at w₀ b₀ low high w b 
 
 abbrev μ-loop : tie.MeasureT-loop
 μ-loop values matrix regs row low₀ high₀ turned at w₀ b₀ low high w b = 8 - b
+
+holds : tie.Need-loop-holds Inv-loop μ-loop
+unfolding packed
+holds c = (omega arith, refl, c .before .pre .1, c .before .pre .2)
 
 again : tie.Need-loop-again Inv-loop μ-loop
 again c =
@@ -40,7 +44,7 @@ shade-row-spec =
     μ-loop
     (λ c κs. search needs)
     (λ c. omega arith)
-    (λ c. (omega arith, refl, none _ (c .before .pre .1), none _ (c .before .pre .2)))
+    holds
     (λ c κs. let l = c .before .before .before .before .loop in ((omega arith, omega arith, l .inv .1), (l .inv .2, l .inv .3)))
     (λ c. omega arith)
     (λ c. omega arith)
