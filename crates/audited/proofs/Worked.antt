@@ -5,23 +5,23 @@ use mathlib.Core.List.{List, [], _∷_, _++_, map}
 use Prim.Native.Nat.{ℕ, _%_, _<_}
 use native.Mathlib.Omega.{arith}
 use lib.Count.{ones, onesIn}
-use lib.Dec.{eqb, leb}
-use borrow.Author.Tests.{leb-true, ne-eqb}
-use Rattle.laws.proofs.Bools.{not-both, both-right}
+use Rattle.laws.proofs.Bools.{not-both}
 use Rattle.crc.specs.Crc.{crcOf}
+use Rattle.lighting.specs.Taken.{exposureOf}
 use Rattle.timing.specs.Lent.{banksAllowed}
+use Rattle.timing.specs.Timing.{totalOf}
 use Rattle.controller.specs.Table.{onCartridge}
 use Rattle.plates.specs.Grey.{plateOf}
 use Rattle.history.specs.History.{Call, read, write, tick, fresh, leaves, after}
 use Rattle.history.specs.History.{World as Found}
 use Rattle.history.specs.Seen.{isReset, inArea, endSeen, AreaLeft, Start, worldAfter}
-use Rattle.history.proofs.Track.{atReset as trackAtReset, writeAccepted, tickAccepted, cyclesOf as totalTold, runsIn, ends, toRegisters, starts, registersAt, toRam, placeOf, lands, enabling, selecting, storing, beginning, running, ending, controlled, registered, written, next, follow, told}
+use Rattle.history.proofs.Track.{atReset as trackAtReset, writeAccepted, tickAccepted, runsIn, ends, toRegisters, starts, registersAt, toRam, placeOf, lands, enabling, selecting, storing, beginning, running, ending, controlled, registered, written, next, follow, told}
 use Rattle.history.proofs.Since.{goesOn, Whole, landed, Clear, tallyTold, startsTold}
 use Rattle.history.proofs.Shows.{starts-told}
 use Rattle.history.proofs.Counts.{started-counts}
 use Rattle.history.proofs.Cycles.{cycles}
 use Rattle.history.proofs.Observed.{starts-seen, ends-seen, goes-seen, landed-seen}
-use Rattle.worked.proofs.Worked.{ram, store, image, ram-bytes}
+use Rattle.worked.proofs.Worked.{ram, store, image, beside, ram-bytes}
 use Rattle.lines.specs.declared.line.Frame.{Frame}
 use Rattle.lines.specs.declared.line.Frame.the-variants.{Reset, Read, Write, Tick, Row, Malformed}
 use Rattle.lines.specs.Line.{frameOf}
@@ -153,19 +153,14 @@ calls-are = calls-said all-said w₀ refl
 
 -- ---- what they come to
 
--- 1000h is no place of the area
-beside : (p : ℕ) → inArea p ≡ true → eqb p 0x1000 ≡ false
-unfolding inArea
-beside p here = ne-eqb p 0x1000 (λ e. omega (arith, leb-true p 0xEFF (both-right (leb 0x100 p) (leb p 0xEFF) here)))
-
 record Premises : Type 0 where
   pub over : Whole (told ram store first-calls) start-call since-calls (tick 40000)
   pub untouched : Clear inArea (next (told ram store first-calls) start-call) since-calls
   pub once : startsTold ram store (first-calls ++ (start-call ∷ since-calls)) ≡ 1
-  pub total : totalTold (registersAt (told ram store first-calls) start-call) ≡ 33214
+  pub total : totalOf (registersAt (told ram store first-calls) start-call) ≡ 33214
 
 premises : Premises
-unfolding registersAt starts toRegisters writeAccepted tickAccepted banksAllowed ones onesIn onCartridge follow next trackAtReset written registered controlled enabling selecting storing beginning running ending ends runsIn totalTold goesOn isReset landed inArea toRam placeOf lands tallyTold
+unfolding registersAt starts toRegisters writeAccepted tickAccepted banksAllowed ones onesIn onCartridge follow next trackAtReset written registered controlled enabling selecting storing beginning running ending ends runsIn totalOf exposureOf goesOn isReset landed inArea toRam placeOf lands tallyTold
 premises = record {
   over = record { held = record { begins = refl; goes = refl }; over = refl };
   untouched = λ p here. rw (beside p here);

@@ -80,11 +80,14 @@ zeros-bytes = bytes-at noRegisters refl
 -- ---- what the calls tell
 
 -- 54 registers and 54 taken, all bytes
-pub record Fit (t : Track) : Type 0 where
-  pub registers : length (t .registers) ≡ 54
-  pub taken : length (t .taken) ≡ 54
-  pub bytes : Bytes (t .registers)
-  pub taken-bytes : Bytes (t .taken)
+pub record Fitting (regs took : List ℕ) : Type 0 where
+  pub registers : length regs ≡ 54
+  pub taken : length took ≡ 54
+  pub bytes : Bytes regs
+  pub taken-bytes : Bytes took
+
+abbrev pub Fit : Track → Type 0
+Fit t = Fitting (t .registers) (t .capture .taken)
 
 module _ (t : Track) (f : Fit t) where
   -- registers that are written
@@ -108,11 +111,8 @@ module _ (t : Track) (f : Fit t) where
   unfolding controlled enabling selecting
   control-fit a v =
       pick-ind Fit (ltb a 0x2000)
-      (λ _. pick-ind Fit (eqb v 0x0A) (λ _. same (enabling t true) refl refl) (λ _. pick-ind Fit (eqb v 0x00) (λ _. same (enabling t false) refl refl) (λ _. f)))
-      (λ _. pick-ind Fit (ltb a 0x4000) (λ _. f) (λ _. pick-ind Fit (ltb a 0x6000) (λ _. same (selecting t (v % 32)) refl refl) (λ _. f)))
-    where
-      same : (u : Track) → u .registers ≡ t .registers → u .taken ≡ t .taken → Fit u
-      same u r k = record { registers = ap length r ∙ f .registers; taken = ap length k ∙ f .taken; bytes = rw r (f .bytes); taken-bytes = rw k (f .taken-bytes) }
+      (λ _. pick-ind Fit (eqb v 0x0A) (λ _. f) (λ _. pick-ind Fit (eqb v 0x00) (λ _. f) (λ _. f)))
+      (λ _. pick-ind Fit (ltb a 0x4000) (λ _. f) (λ _. pick-ind Fit (ltb a 0x6000) (λ _. f) (λ _. f)))
 
   write-fit : (image : List ℕ) (a v : ℕ) → v < 256 → Fit (next t (history.write image a v))
   unfolding next written registered
@@ -125,7 +125,7 @@ module _ (t : Track) (f : Fit t) where
       pick-ind Fit (isSet (t .select) 4)
       (λ _.
       pick-ind Fit (eqb (a % 128) 0)
-      (λ _. pick-ind Fit (eqb (v % 2) 1 && not (t .held)) (λ _. begun-fit image (v % 8) (omega arith)) (λ _. set-fit 0 (v % 8) (omega arith)))
+      (λ _. pick-ind Fit (eqb (v % 2) 1 && not (t .capture .held)) (λ _. begun-fit image (v % 8) (omega arith)) (λ _. set-fit 0 (v % 8) (omega arith)))
       (λ _. pick-ind Fit (ltb (a % 128) 54) (λ _. set-fit (a % 128) v h) (λ _. f)))
       (λ _. f)))
       (λ _. f)
@@ -141,7 +141,7 @@ module _ (t : Track) (f : Fit t) where
         bytes = set-bytes (t .registers) 0 _ (f .bytes) (omega (arith, f .bytes 0));
         taken-bytes = zeros-bytes;
       })
-      (λ _. record { registers = f .registers; taken = f .taken; bytes = f .bytes; taken-bytes = f .taken-bytes })
+      (λ _. f)
 
   choose-fit : (light level : ℕ) (plain : Bool) (n : ℕ) → Fit (next t (history.choose light level plain (exposureIn n)))
   unfolding next
@@ -201,8 +201,8 @@ now-whole t w n =
     let s = n .moment .told .same in
     record {
       registers = sym (ap (λ (u : Track). length (u .registers)) s) ∙ n .fit .registers;
-      taken = sym (ap (λ (u : Track). length (u .taken)) s) ∙ n .fit .taken;
-      elapsed = elapsed-small (w .state) (n .moment .sound .exists) (subst (λ (u : Track). Bytes (u .taken)) s (n .fit .taken-bytes));
+      taken = sym (ap (λ (u : Track). length (u .capture .taken)) s) ∙ n .fit .taken;
+      elapsed = elapsed-small (w .state) (n .moment .sound .exists) (subst (λ (u : Track). Bytes (u .capture .taken)) s (n .fit .taken-bytes));
       started = n .started;
       ended = n .ended;
     }

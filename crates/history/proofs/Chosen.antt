@@ -65,7 +65,7 @@ module _ (ram store : List ℕ) (cs : List Call) (light level : ℕ) (plain : Bo
   unfolding registersAt withRegisters
   choice-taken ok image a v h =
       let n = moment-next _ _ m choice in
-      sym (ap (λ (u : Track). u .taken) (moment-next _ _ n (write image a v) .told .same))
+      sym (ap (λ (u : Track). u .capture .taken) (moment-next _ _ n (write image a v) .told .same))
       ∙ start-of _ (write image a v) (start-same _ _ n (write image a v) ∙ h) .taken
       ∙ ap (λ (u : Track). set (u .registers) 0 (v % 8)) (n .told .same)
       ∙ ap (λ (w : World). set (w .state .registers) 0 (v % 8)) choice-leaves

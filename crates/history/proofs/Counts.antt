@@ -108,7 +108,7 @@ pub counts-next : (t : Track) (w : World) → Moment t w → (k : Call)
 counts-next t w m k =
     rw (← start-same t w m k, ← end-same t w m k)
     (subst (λ (u : Track). Counts (upTo (isReset k) (starts u k) (w .state .started)) (upTo (isReset k) (ends u k) (w .state .ended)) (leaves w k .state))
-    (sym (m .told .same)) (call-counts w (t .image) (m .told .own) (m .sound .exists) k))
+    (sym (m .told .same)) (call-counts w (t .capture .image) (m .told .own) (m .sound .exists) k))
 
 -- a count that wraps is the number modulo 65,536
 wraps : (back more : Bool) (n : ℕ) → upTo back more (n % 65536) ≡ pick back 0 (pick more (n + 1) n) % 65536

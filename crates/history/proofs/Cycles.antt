@@ -3,8 +3,9 @@ use mathlib.Core.Path.{_≡_, _∙_}
 use mathlib.Core.List.{List, [], _∷_, _++_}
 use Prim.Native.Nat.{ℕ, _+_, _<_}
 use native.Mathlib.Nat.{add-zero}
+use Rattle.timing.specs.Timing.{totalOf}
 use Rattle.history.specs.History.{Call, World, fresh, answers, countIn, after, counted}
-use Rattle.history.proofs.Track.{cyclesOf, runsIn, registersAt, told}
+use Rattle.history.proofs.Track.{runsIn, registersAt, told}
 use Rattle.history.proofs.Since.{Held, Whole}
 use Rattle.history.proofs.Follows.{count-next, cycles-left}
 use Rattle.history.proofs.Goes.{end-count, counted-append, moment-now, on, now-last, world-last, moment-last}
@@ -18,7 +19,7 @@ one-count w k = add-zero (countIn (answers w k))
 -- since the start add up to exactly 32,446, and 512 if bit N was clear, and 16 × exposure, by the registers at the start
 pub cycles : (ram store : List ℕ) (before : List Call) (start : Call) (between : List Call) (last : Call)
     → Whole (told ram store before) start between last
-    → counted (after (fresh ram store) before) (start ∷ (between ++ (last ∷ []))) ≡ cyclesOf (registersAt (told ram store before) start)
+    → counted (after (fresh ram store) before) (start ∷ (between ++ (last ∷ []))) ≡ totalOf (registersAt (told ram store before) start)
 unfolding after
 cycles ram store before start between last h =
     let t = now-last ram store before start between last h in
@@ -26,14 +27,14 @@ cycles ram store before start between last h =
     let m = moment-last ram store before start between last h in
     let o = on ram store before start between (h .held) in
     let begin : World = after (fresh ram store) before in
-    let e : t .ran + runsIn t last ≡ cyclesOf (t .taken) = end-count t last (h .over) .1 in
+    let e : t .capture .ran + runsIn t last ≡ totalOf (t .capture .taken) = end-count t last (h .over) .1 in
     let all : counted begin ((start ∷ between) ++ (last ∷ [])) ≡ counted begin (start ∷ between) + counted w (last ∷ []) = counted-append (start ∷ between) (last ∷ []) begin in
     all ∙ rw (one-count w last, count-next t w m last, ← o .ran, e, o .taken)
 
 -- Until then the counts stay below that
 pub cycles-below : (ram store : List ℕ) (before : List Call) (start : Call) (between : List Call)
     → Held (told ram store before) start between
-    → counted (after (fresh ram store) before) (start ∷ between) < cyclesOf (registersAt (told ram store before) start)
+    → counted (after (fresh ram store) before) (start ∷ between) < totalOf (registersAt (told ram store before) start)
 cycles-below ram store before start between held =
     let o = on ram store before start between held in
     rw (← o .ran, ← o .taken) (cycles-left _ _ (moment-now ram store before start between held) (o .held))

@@ -11,7 +11,7 @@ use lib.Seq.{getD-set-same, getD-set-other}
 use borrow.Author.Tests.{ne-eqb, eq-eqb, eqb-true, eqb-false}
 use Rattle.laws.specs.Pick.{pick}
 use Rattle.laws.proofs.Order.{split}
-use Rattle.lighting.specs.Taken.{exposureOf, settingOf}
+use Rattle.lighting.specs.Taken.{settingOf}
 use Rattle.lighting.specs.Light.{lightFrame, byteAt}
 use Rattle.sensor.proofs.Lit.{light-length}
 use Rattle.laws.proofs.Pick.{paired, pick-ind}
@@ -46,7 +46,7 @@ use Rattle.placing.proofs.Placed.{place-none, place-refuses}
 use Rattle.placing.proofs.Left.{left-length}
 use Rattle.history.specs.History.{Call, reset, read, write, tick, inspect, choose, place, World, fresh, leftBy, leaves, answers, refusalIn, countIn, after}
 use Rattle.history.specs.Seen.{inArea, byteIn}
-use Rattle.history.proofs.Track.{toRam, placeOf, lands, Track, atReset, writeAccepted, tickAccepted, choiceAccepted, placeAccepted, cyclesOf, runsIn, ends, enabling, selecting, storing, beginning, running, ending, controlled, registered, written, next, follow, told, seen, Told}
+use Rattle.history.proofs.Track.{toRam, placeOf, lands, Track, atReset, writeAccepted, tickAccepted, choiceAccepted, placeAccepted, runsIn, ends, enabling, selecting, storing, beginning, running, ending, controlled, registered, written, next, follow, told, seen, Told}
 use Rattle.history.proofs.Area.{area-byte}
 use Rattle.history.proofs.Reachable.{Sound, reset-sound, call-sound}
 
@@ -97,11 +97,6 @@ store-size : (store image : List ℕ) → (frameAllowed (length store) && frameA
 store-size store image h = frame-lent (length store) (both-left (frameAllowed (length store)) (frameAllowed (length image)) h)
 
 -- ---- a tick
-
--- the paper's figure is the controller's
-pub cycles-total : (regs : List ℕ) → cyclesOf regs ≡ totalOf regs
-unfolding cyclesOf totalOf exposureOf
-cycles-total regs = refl
 
 module _ (w : World) (n : ℕ) (exists : cantExist (w .state) ≡ false) where
   abbrev lent : Bool
@@ -235,15 +230,15 @@ module _ (w : World) (im : List ℕ) (own : w .state .held ≡ true → w .store
       -- whether it ends the capture: not where no cycle runs, nor where some are left
       ends-still : runs ≡ 0 → ends (seen w im) (tick n) ≡ false
       unfolding ends
-      ends-still z = rw (z, add-zero, cycles-total (c .taken), before-end)
+      ends-still z = rw (z, add-zero, before-end)
 
       ends-on : runs ≡ n → e + n < total → ends (seen w im) (tick n) ≡ false
       unfolding ends
-      ends-on z l = rw (z, cycles-total (c .taken), ne-eqb (e + n) total (omega arith), and-false)
+      ends-on z l = rw (z, ne-eqb (e + n) total (omega arith), and-false (c .held))
 
       ends-over : c .held ≡ true → runs ≡ total - e → e < total → ends (seen w im) (tick n) ≡ true
       unfolding ends
-      ends-over h z l = rw (z, h, cycles-total (c .taken), eq-eqb (e + (total - e)) total (omega arith))
+      ends-over h z l = rw (z, h, eq-eqb (e + (total - e)) total (omega arith))
 
       -- what is told after the tick: nothing new, so many cycles more, the end
       next-still : runs ≡ 0 → next (seen w im) (tick n) ≡ seen w im
@@ -294,7 +289,7 @@ module _ (w : World) (im : List ℕ) (own : w .state .held ≡ true → w .store
         module _ (on : capture.running c ≡ true) where
           runs-min : runs ≡ min n (total - e)
           unfolding runsIn tickAccepted
-          runs-min = rw (ok, on, cycles-total (c .taken))
+          runs-min = rw (ok, on)
 
           -- a tick within a capture
           onward : e + n < total → Ticked n
@@ -494,7 +489,7 @@ unfolding atReset resetState
 at-reset ram store = record { told = record { same = refl; own = λ h. not-both h refl }; sound = reset-sound }
 
 module _ (t : Track) (w : World) (m : Moment t w) (k : Call) where
-  abbrev own : w .state .held ≡ true → w .store ≡ lightFrame (t .image) (settingOf (w .state .taken))
+  abbrev own : w .state .held ≡ true → w .store ≡ lightFrame (t .capture .image) (settingOf (w .state .taken))
   own = m .told .own
 
   abbrev exists : cantExist (w .state) ≡ false
@@ -502,36 +497,36 @@ module _ (t : Track) (w : World) (m : Moment t w) (k : Call) where
 
   pub moment-next : Moment (next t k) (leaves w k)
   moment-next = record {
-    told = subst (λ (u : Track). Told (next u k) (leaves w k)) (sym (m .told .same)) (call-told w (t .image) own exists k);
+    told = subst (λ (u : Track). Told (next u k) (leaves w k)) (sym (m .told .same)) (call-told w (t .capture .image) own exists k);
     sound = call-sound w k (m .sound);
   }
 
   -- the count returned
   pub count-next : countIn (answers w k) ≡ runsIn t k
-  count-next = subst (λ (u : Track). countIn (answers w k) ≡ runsIn u k) (sym (m .told .same)) (call-count w (t .image) own exists k)
+  count-next = subst (λ (u : Track). countIn (answers w k) ≡ runsIn u k) (sym (m .told .same)) (call-count w (t .capture .image) own exists k)
 
   -- the RAM left: a byte that landed there, or else as the tick's pixels are put
   abbrev pub put-next : List ℕ
-  put-next = pixels (byteAt (w .store)) (t .taken) (doneBy (t .taken) (t .ran)) (doneBy (t .taken) (t .ran + runsIn t k)) (w .ram)
+  put-next = pixels (byteAt (w .store)) (t .capture .taken) (doneBy (t .capture .taken) (t .capture .ran)) (doneBy (t .capture .taken) (t .capture .ran + runsIn t k)) (w .ram)
 
   pub byte-next : (p : ℕ) → getD (leaves w k .ram) p 0 ≡ pick (lands t k p) (byteIn k p) (getD put-next p 0)
   byte-next p =
       subst
       (λ (u : Track).
       getD (leaves w k .ram) p 0
-      ≡ pick (lands u k p) (byteIn k p) (getD (pixels (byteAt (w .store)) (u .taken) (doneBy (u .taken) (u .ran)) (doneBy (u .taken) (u .ran + runsIn u k)) (w .ram)) p 0))
+      ≡ pick (lands u k p) (byteIn k p) (getD (pixels (byteAt (w .store)) (u .capture .taken) (doneBy (u .capture .taken) (u .capture .ran)) (doneBy (u .capture .taken) (u .capture .ran + runsIn u k)) (w .ram)) p 0))
       (sym (m .told .same))
-      (call-byte w (t .image) own exists k p)
+      (call-byte w (t .capture .image) own exists k p)
 
   -- its length stays
   pub size-next : length (leaves w k .ram) ≡ length (w .ram)
-  size-next = call-size w (t .image) own exists k
+  size-next = call-size w (t .capture .image) own exists k
 
 -- a capture held has cycles left
-pub cycles-left : (t : Track) (w : World) → Moment t w → t .held ≡ true → t .ran < cyclesOf (t .taken)
+pub cycles-left : (t : Track) (w : World) → Moment t w → t .capture .held ≡ true → t .capture .ran < totalOf (t .capture .taken)
 cycles-left t w m =
-    subst (λ (u : Track). u .held ≡ true → u .ran < cyclesOf (u .taken)) (sym (m .told .same))
-    (λ h. rw (cycles-total (w .state .taken)) (before-total (w .state) (m .sound .exists) h))
+    subst (λ (u : Track). u .capture .held ≡ true → u .capture .ran < totalOf (u .capture .taken)) (sym (m .told .same))
+    (before-total (w .state) (m .sound .exists))
 
 pub moment-after : (cs : List Call) (t : Track) (w : World) → Moment t w → Moment (follow t cs) (after w cs)
 unfolding follow after
@@ -558,4 +553,4 @@ module _ (ram store : List ℕ) (cs : List Call) where
   pub place-true : (file : List ℕ) → eqb (refusalIn (answers (after (fresh ram store) cs) (place file))) 0 ≡ placeAccepted (told ram store cs) file
   place-true file =
       subst (λ (u : Track). eqb (refusalIn (answers w (place file))) 0 ≡ placeAccepted u file) (sym (m .told .same))
-      (place-number w (t .image) (m .told .own) (m .sound .exists) file)
+      (place-number w (t .capture .image) (m .told .own) (m .sound .exists) file)

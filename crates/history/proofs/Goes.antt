@@ -5,29 +5,28 @@ use mathlib.Core.List.{List, [], _∷_, _++_}
 use Prim.Native.Nat.{ℕ, _+_, _%_}
 use native.Mathlib.Nat.{add-zero, zero-add, add-assoc}
 use lib.Dec.{eqb, ltb}
-use lib.ListN.{set}
 use borrow.Author.Tests.{not-true, eqb-true}
 use Rattle.laws.specs.Bits.{isSet}
 use Rattle.laws.proofs.Pick.{pick-ind}
 use Rattle.laws.proofs.Bools.{either, not-both, both-left, both-right}
+use Rattle.timing.specs.Timing.{totalOf}
 use Rattle.desk.specs.declared.choice.Exposure.{Exposure}
-use Rattle.desk.specs.Choice.{registersChosen}
 use Rattle.history.specs.History.{Call, reset, read, write, tick, inspect, choose, place, World, fresh, leaves, answers, countIn, after, counted}
 use Rattle.history.specs.Seen.{isReset}
-use Rattle.history.proofs.Track.{Track, atReset, writeAccepted, choiceAccepted, cyclesOf, runsIn, ends, toRegisters, starts, imageIn, registersAt, enabling, selecting, storing, beginning, running, ending, controlled, registered, written, next, follow, told}
+use Rattle.history.proofs.Track.{Capture, Track, atReset, writeAccepted, choiceAccepted, runsIn, ends, toRegisters, starts, imageIn, registersAt, enabling, selecting, storing, beginning, running, ending, controlled, registered, written, next, follow, told}
 use Rattle.history.proofs.Since.{goesOn, Held, Whole}
 use Rattle.history.proofs.Follows.{Moment, at-reset, moment-next, moment-after, count-next}
 
 -- a capture is held with this image, these registers, after so many cycles
-pub record Of (lent regs : List ℕ) (n : ℕ) (t : Track) : Type 0 where
-  pub held : t .held ≡ true
-  pub image : t .image ≡ lent
-  pub taken : t .taken ≡ regs
-  pub ran : t .ran ≡ n
+pub record Of (lent regs : List ℕ) (n : ℕ) (c : Capture) : Type 0 where
+  pub held : c .held ≡ true
+  pub image : c .image ≡ lent
+  pub taken : c .taken ≡ regs
+  pub ran : c .ran ≡ n
 
 -- ---- a start
 
-pub start-of : (t : Track) (k : Call) → starts t k ≡ true → Of (imageIn k) (registersAt t k) 0 (next t k)
+pub start-of : (t : Track) (k : Call) → starts t k ≡ true → Of (imageIn k) (registersAt t k) 0 (next t k .capture)
 unfolding starts toRegisters imageIn registersAt next written registered beginning
 start-of t reset h = not-both h refl
 start-of t (read rom a) h = not-both h refl
@@ -36,7 +35,7 @@ start-of t (write image a v) h =
     let high = not (ltb a 0x8000) in
     let regs = isSet (t .select) 4 in
     let zeroth = eqb (a % 128) 0 in
-    let new = eqb (v % 2) 1 && not (t .held) in
+    let new = eqb (v % 2) 1 && not (t .capture .held) in
     let l : (ok && (high && regs)) ≡ true = both-left (ok && (high && regs)) (zeroth && new) h in
     let r : (zeroth && new) ≡ true = both-right (ok && (high && regs)) (zeroth && new) h in
     let q : (high && regs) ≡ true = both-right ok (high && regs) l in
@@ -60,31 +59,26 @@ start-count t (place file) h = refl
 
 -- ---- a call that does not end it
 
-module _ {image taken : List ℕ} {ran : ℕ} (t : Track) (o : Of image taken ran t) where
+module _ {image taken : List ℕ} {ran : ℕ} (t : Track) (o : Of image taken ran (t .capture)) where
   abbrev Same : Track → Type 0
-  Same u = Of image taken ran u
-
-  changed : (u : Track) → u .held ≡ t .held → u .image ≡ t .image → u .taken ≡ t .taken → u .ran ≡ t .ran → Same u
-  changed u h i r n = record { held = h ∙ o .held; image = i ∙ o .image; taken = r ∙ o .taken; ran = n ∙ o .ran }
+  Same u = Of image taken ran (u .capture)
 
   control-same : (a v : ℕ) → Same (controlled t a v)
   unfolding controlled enabling selecting
   control-same a v =
       pick-ind Same (ltb a 0x2000)
-      (λ _.
-      pick-ind Same (eqb v 0x0A) (λ _. changed (enabling t true) refl refl refl refl)
-      (λ _. pick-ind Same (eqb v 0x00) (λ _. changed (enabling t false) refl refl refl refl) (λ _. o)))
-      (λ _. pick-ind Same (ltb a 0x4000) (λ _. o) (λ _. pick-ind Same (ltb a 0x6000) (λ _. changed (selecting t (v % 32)) refl refl refl refl) (λ _. o)))
+      (λ _. pick-ind Same (eqb v 0x0A) (λ _. o) (λ _. pick-ind Same (eqb v 0x00) (λ _. o) (λ _. o)))
+      (λ _. pick-ind Same (ltb a 0x4000) (λ _. o) (λ _. pick-ind Same (ltb a 0x6000) (λ _. o) (λ _. o)))
 
   registers-same : (lent : List ℕ) (i v : ℕ) → Same (registered t lent i v)
   unfolding registered storing
   registers-same lent i v =
       pick-ind Same (eqb i 0)
       (λ _.
-      pick-ind Same (eqb (v % 2) 1 && not (t .held))
-      (λ new. not-both (o .held) (not-true (t .held) (both-right (eqb (v % 2) 1) (not (t .held)) new)))
-      (λ _. changed (storing t (set (t .registers) 0 (v % 8))) refl refl refl refl))
-      (λ _. pick-ind Same (ltb i 54) (λ _. changed (storing t (set (t .registers) i v)) refl refl refl refl) (λ _. o))
+      pick-ind Same (eqb (v % 2) 1 && not (t .capture .held))
+      (λ new. not-both (o .held) (not-true (t .capture .held) (both-right (eqb (v % 2) 1) (not (t .capture .held)) new)))
+      (λ _. o))
+      (λ _. pick-ind Same (ltb i 54) (λ _. o) (λ _. o))
 
   written-same : (lent : List ℕ) (a v : ℕ) → Same (next t (write lent a v))
   unfolding next written
@@ -95,14 +89,13 @@ module _ {image taken : List ℕ} {ran : ℕ} (t : Track) (o : Of image taken ra
 
   chosen-same : (light level : ℕ) (plain : Bool) (exposure : Exposure) → Same (next t (choose light level plain exposure))
   unfolding next storing
-  chosen-same light level plain exposure =
-      pick-ind Same (choiceAccepted light level) (λ _. changed (storing t (registersChosen (t .registers) light level plain exposure)) refl refl refl refl) (λ _. o)
+  chosen-same light level plain exposure = pick-ind Same (choiceAccepted light level) (λ _. o) (λ _. o)
 
-  more : (u : Track) → Same u → Of image taken (ran + 0) u
-  more u s = record { held = s .held; image = s .image; taken = s .taken; ran = s .ran ∙ sym (add-zero ran) }
+  more : (u : Track) → Same u → Of image taken (ran + 0) (u .capture)
+  more u s = rw (add-zero ran) s
 
   -- it goes on with the image and the registers of its start, and with the call's cycles
-  pub goes-next : (k : Call) → isReset k ≡ false → ends t k ≡ false → Of image taken (ran + runsIn t k) (next t k)
+  pub goes-next : (k : Call) → isReset k ≡ false → ends t k ≡ false → Of image taken (ran + runsIn t k) (next t k .capture)
   unfolding isReset runsIn next running
   goes-next reset r e = not-both refl r
   goes-next (read rom a) r e = more t o
@@ -123,8 +116,8 @@ first-goes t k cs g =
     (not-true _ (both-left (not (isReset k)) (not (ends t k)) l), not-true _ (both-right (not (isReset k)) (not (ends t k)) l), both-right here (goesOn (next t k) cs) g)
 
 -- it is held through them with the image and the registers of its start, and its cycles are the counts returned
-pub goes-through : {image taken : List ℕ} {ran : ℕ} (cs : List Call) (t : Track) (w : World) → Moment t w → Of image taken ran t → goesOn t cs ≡ true
-    → Of image taken (ran + counted w cs) (follow t cs)
+pub goes-through : {image taken : List ℕ} {ran : ℕ} (cs : List Call) (t : Track) (w : World) → Moment t w → Of image taken ran (t .capture) → goesOn t cs ≡ true
+    → Of image taken (ran + counted w cs) (follow t cs .capture)
 unfolding follow counted
 goes-through {image} {taken} {ran} [] t w m o g = rw (add-zero ran) o
 goes-through {image} {taken} {ran} (k ∷ cs) t w m o g =
@@ -134,17 +127,17 @@ goes-through {image} {taken} {ran} (k ∷ cs) t w m o g =
 
 -- ---- the call in which it ends
 
-pub end-count : (t : Track) (k : Call) → ends t k ≡ true → (t .held ≡ true) × (t .ran + runsIn t k ≡ cyclesOf (t .taken))
+pub end-count : (t : Track) (k : Call) → ends t k ≡ true → (t .capture .held ≡ true) × (t .capture .ran + runsIn t k ≡ totalOf (t .capture .taken))
 unfolding ends
 end-count t reset h = not-both h refl
 end-count t (read rom a) h = not-both h refl
 end-count t (write image a v) h = not-both h refl
-end-count t (tick n) h = (both-left (t .held) _ h, eqb-true _ _ (both-right (t .held) _ h))
+end-count t (tick n) h = (both-left (t .capture .held) _ h, eqb-true _ _ (both-right (t .capture .held) _ h))
 end-count t inspect h = not-both h refl
 end-count t (choose light level plain exposure) h = not-both h refl
 end-count t (place file) h = not-both h refl
 
-pub end-next : (t : Track) (k : Call) → ends t k ≡ true → next t k .held ≡ false
+pub end-next : (t : Track) (k : Call) → ends t k ≡ true → next t k .capture .held ≡ false
 end-next t reset h = unfold ends in not-both h refl
 end-next t (read rom a) h = unfold ends in not-both h refl
 end-next t (write image a v) h = unfold ends in not-both h refl
@@ -157,7 +150,7 @@ end-next t (place file) h = unfold ends in not-both h refl
 
 -- after a call that is no start, a capture is held only if one was held before, and the call is no reset and not its end
 abbrev Was : Track → Track → Type 0
-Was t u = u .held ≡ true → t .held ≡ true
+Was t u = u .capture .held ≡ true → t .capture .held ≡ true
 
 control-was : (t : Track) (a v : ℕ) → Was t (controlled t a v)
 unfolding controlled enabling selecting
@@ -177,25 +170,25 @@ write-was t image a v s =
     pick-ind (Was t) (isSet (t .select) 4)
     (λ regs.
     pick-ind (Was t) (eqb (a % 128) 0)
-    (λ zeroth. pick-ind (Was t) (eqb (v % 2) 1 && not (t .held)) (λ new _. not-both (rw (ok, high, regs, zeroth) new) s) (λ _ h. h))
+    (λ zeroth. pick-ind (Was t) (eqb (v % 2) 1 && not (t .capture .held)) (λ new _. not-both (rw (ok, high, regs, zeroth) new) s) (λ _ h. h))
     (λ _. pick-ind (Was t) (ltb (a % 128) 54) (λ _ h. h) (λ _ h. h)))
     (λ _ h. h)))
     (λ _ h. h)
 
-tick-was : (t : Track) (n : ℕ) → next t (tick n) .held ≡ true → (t .held ≡ true) × (ends t (tick n) ≡ false)
+tick-was : (t : Track) (n : ℕ) → next t (tick n) .capture .held ≡ true → (t .capture .held ≡ true) × (ends t (tick n) ≡ false)
 unfolding next ending running
 tick-was t n =
-    pick-ind (λ (u : Track). u .held ≡ true → (t .held ≡ true) × (ends t (tick n) ≡ false)) (ends t (tick n)) (λ _ h. not-both h refl) (λ e h. (h, e))
+    pick-ind (λ (u : Track). u .capture .held ≡ true → (t .capture .held ≡ true) × (ends t (tick n) ≡ false)) (ends t (tick n)) (λ _ h. not-both h refl) (λ e h. (h, e))
 
 choice-was : (t : Track) (light level : ℕ) (plain : Bool) (exposure : Exposure) → Was t (next t (choose light level plain exposure))
 unfolding next storing
 choice-was t light level plain exposure = pick-ind (Was t) (choiceAccepted light level) (λ _ h. h) (λ _ h. h)
 
-reset-was : (t : Track) → next t reset .held ≡ true → ⊥
+reset-was : (t : Track) → next t reset .capture .held ≡ true → ⊥
 unfolding next atReset
 reset-was t h = not-both h refl
 
-pub was-held : (t : Track) (k : Call) → starts t k ≡ false → next t k .held ≡ true → (t .held ≡ true) × (isReset k ≡ false) × (ends t k ≡ false)
+pub was-held : (t : Track) (k : Call) → starts t k ≡ false → next t k .capture .held ≡ true → (t .capture .held ≡ true) × (isReset k ≡ false) × (ends t k ≡ false)
 unfolding isReset
 was-held t reset s h = absurd (reset-was t h)
 was-held t (read rom a) s h = (unfold next in h, refl, unfold ends in refl)
@@ -206,7 +199,7 @@ was-held t (choose light level plain exposure) s h = (choice-was t light level p
 was-held t (place file) s h = (unfold next in h, refl, unfold ends in refl)
 
 -- no cycle runs, and none is held until a start
-pub idle-runs : (t : Track) (k : Call) → t .held ≡ false → runsIn t k ≡ 0
+pub idle-runs : (t : Track) (k : Call) → t .capture .held ≡ false → runsIn t k ≡ 0
 unfolding runsIn
 idle-runs t reset h = refl
 idle-runs t (read rom a) h = refl
@@ -216,8 +209,8 @@ idle-runs t inspect h = refl
 idle-runs t (choose light level plain exposure) h = refl
 idle-runs t (place file) h = refl
 
-pub rests-next : (t : Track) (k : Call) → t .held ≡ false → starts t k ≡ false → (runsIn t k ≡ 0) × (next t k .held ≡ false)
-rests-next t k h s = (idle-runs t k h, either (next t k .held) (λ on. not-both (was-held t k s on .0) h) (λ off. off))
+pub rests-next : (t : Track) (k : Call) → t .capture .held ≡ false → starts t k ≡ false → (runsIn t k ≡ 0) × (next t k .capture .held ≡ false)
+rests-next t k h s = (idle-runs t k h, either (next t k .capture .held) (λ on. not-both (was-held t k s on .0) h) (λ off. off))
 
 -- ---- lists of calls
 
@@ -265,10 +258,10 @@ module _ (ram store : List ℕ) (before : List Call) (start : Call) (between : L
   unfolding counted
   same-count = rw (count-next first world moment start, start-count first start (h .begins), zero-add (counted (leaves world start) between))
 
-  pub begun : Of (imageIn start) (registersAt first start) 0 (next first start)
+  pub begun : Of (imageIn start) (registersAt first start) 0 (next first start .capture)
   begun = start-of first start (h .begins)
 
-  pub on : Of (imageIn start) (registersAt first start) (counted world (start ∷ between)) now
+  pub on : Of (imageIn start) (registersAt first start) (counted world (start ∷ between)) (now .capture)
   on = rw (same-count, ← zero-add (counted (leaves world start) between)) (goes-through between (next first start) (leaves world start) moment-start begun (h .goes))
 
 -- ---- and the call in which it reaches its end

@@ -122,12 +122,12 @@ module _ (image regs : List ℕ) (p b was : ℕ) (here : inArea p ≡ true) wher
       (λ late. rw (le-ltb n cycle late, le-leb cycle n late, le-leb cycle (n + r) (omega arith))))
 
   -- one call
-  pub sent-next : (t : Track) (n : ℕ) (k : Call) → Of image regs n t → lands t k p ≡ false → sentTold p b t k (sent-by n) ≡ sent-by (n + runsIn t k)
+  pub sent-next : (t : Track) (n : ℕ) (k : Call) → Of image regs n (t .capture) → lands t k p ≡ false → sentTold p b t k (sent-by n) ≡ sent-by (n + runsIn t k)
   unfolding sentTold sendsTold shadeSent
-  sent-next t n k o out = rw (out, here) (more-sent (t .image) (t .taken) (t .ran) n (runsIn t k) (o .image) (o .taken) (o .ran))
+  sent-next t n k o out = rw (out, here) (more-sent (t .capture .image) (t .capture .taken) (t .capture .ran) n (runsIn t k) (o .image) (o .taken) (o .ran))
 
   -- calls through which the capture goes on
-  pub sent-through : (cs : List Call) (t : Track) (w : World) → Moment t w → (n : ℕ) → Of image regs n t → goesOn t cs ≡ true → landed p t cs ≡ false
+  pub sent-through : (cs : List Call) (t : Track) (w : World) → Moment t w → (n : ℕ) → Of image regs n (t .capture) → goesOn t cs ≡ true → landed p t cs ≡ false
       → lastTold p b t cs (sent-by n) ≡ sent-by (n + counted w cs)
   unfolding lastTold counted landed
   sent-through [] t w m n o g c = rw (add-zero n)

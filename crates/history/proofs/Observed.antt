@@ -20,9 +20,9 @@ use Rattle.plates.specs.Grey.{plateOf, plateAfresh}
 use Rattle.history.specs.History.{Call, reset, read, write, tick, inspect, choose, place, World, fresh, leaves, after, counted}
 use Rattle.history.specs.Seen.{idleThrough, Own, inArea, isReset, bytesIn, startSeen, endSeen, heldThrough, landsSeen, landedSeen, lastSeen, AreaLeft, Start, startOf, worldBefore, worldAfter, registersOf, afresh, afreshOf, countsOf, OneStart, Ended}
 use Rattle.history.specs.Bits.{cycleOf}
-use Rattle.history.proofs.Track.{Track, cyclesOf, starts, ends, imageIn, registersAt, lands, next, follow, told}
+use Rattle.history.proofs.Track.{Track, starts, ends, imageIn, registersAt, lands, next, follow, told}
 use Rattle.history.proofs.Since.{goesOn, Held, Whole, ofPixel, landed}
-use Rattle.history.proofs.Follows.{Moment, at-reset, moment-next, moment-after, told-true, cycles-total}
+use Rattle.history.proofs.Follows.{Moment, at-reset, moment-next, moment-after, told-true}
 use Rattle.history.proofs.Goes.{start-of, goes-next, first-goes, end-next, same-world}
 use Rattle.history.proofs.Shows.{held-is, itself, held-now, held-then, start-same, end-same, lands-same, landed-same, last-same}
 use Rattle.history.proofs.Outside.{outside}
@@ -32,7 +32,7 @@ use Rattle.history.proofs.HalfPicture.{half-picture}
 use Rattle.history.proofs.Picture.{picture, plate, area-stays}
 
 -- it goes on where it is held all through
-goes-held : (cs : List Call) (t : Track) (w : World) → Moment t w → t .held ≡ true → goesOn t cs ≡ true → heldThrough w cs ≡ true
+goes-held : (cs : List Call) (t : Track) (w : World) → Moment t w → t .capture .held ≡ true → goesOn t cs ≡ true → heldThrough w cs ≡ true
 unfolding heldThrough
 goes-held [] t w m h g = sym (held-now t w m) ∙ h
 goes-held (k ∷ cs) t w m h g =
@@ -49,7 +49,7 @@ held-goes [] t w m h = unfold goesOn in refl
 held-goes (k ∷ cs) t w m h =
     let m′ = moment-next t w m k in
     let r : heldThrough (leaves w k) cs ≡ true = unfold heldThrough in both-right (w .state .held) (heldThrough (leaves w k) cs) h in
-    let on : next t k .held ≡ true = held-then t w m k ∙ first-held cs (leaves w k) r in
+    let on : next t k .capture .held ≡ true = held-then t w m k ∙ first-held cs (leaves w k) r in
     goes-first t k cs (held-is t k on) (either (ends t k) (λ e. not-both on (end-next t k e)) (λ e. e)) (held-goes cs (next t k) (leaves w k) m′ r)
 
 -- ---- from reset
@@ -143,8 +143,8 @@ module _ {ram store : List ℕ} {calls : List Call} (s : Start ram store calls) 
   unfolding registersAt
   registers-same = ap (λ (u : Track). set (u .registers) 0 (s .byte % 8)) (told-true ram store (s .before) .same)
 
-  total-same : cyclesOf (registersAt (told ram store (s .before)) (startOf s)) ≡ totalOf (registersOf s)
-  total-same = cycles-total _ ∙ ap totalOf registers-same
+  total-same : totalOf (registersAt (told ram store (s .before)) (startOf s)) ≡ totalOf (registersOf s)
+  total-same = ap totalOf registers-same
 
   world-same : after (fresh ram store) calls ≡ after (worldAfter s) (s .since)
   world-same = ap (after (fresh ram store)) (s .whole) ∙ same-world ram store (s .before) (startOf s) (s .since) start-held

@@ -23,14 +23,14 @@ own-frame ram store before start between h =
     let m = moment-now ram store before start between h in
     let o = on ram store before start between h in
     let s = m .told .same in
-    let held = sym (ap (λ (u : Track). u .held) s) ∙ o .held in
-    let taken = sym (ap (λ (u : Track). u .taken) s) ∙ o .taken in
+    let held = sym (ap (λ (u : Track). u .capture .held) s) ∙ o .held in
+    let taken = sym (ap (λ (u : Track). u .capture .taken) s) ∙ o .taken in
     rw (same-world ram store before start between h)
     (record {
       held = held;
       store = m .told .own held ∙ ap₂ (λ (image regs : List ℕ). lightFrame image (settingOf regs)) (o .image) taken;
       taken = taken;
-      elapsed = sym (ap (λ (u : Track). u .ran) s) ∙ o .ran;
+      elapsed = sym (ap (λ (u : Track). u .capture .ran) s) ∙ o .ran;
     })
 
 -- At its end it is held no more
@@ -41,7 +41,7 @@ at-end ram store before start between last h =
     let t = now-last ram store before start between last h in
     let w = world-last ram store before start between last h in
     let m = moment-next t w (moment-last ram store before start between last h) last in
-    rw (whole-world ram store before start between last h) (sym (ap (λ (u : Track). u .held) (m .told .same)) ∙ end-next t last (h .over))
+    rw (whole-world ram store before start between last h) (sym (ap (λ (u : Track). u .capture .held) (m .told .same)) ∙ end-next t last (h .over))
 
 -- ---- and every capture held has such a start
 
@@ -50,8 +50,8 @@ unfolding goesOn
 goes-first t k cs r e g = rw (r, e) g
 
 -- a capture held at the end of a list of calls was held all through, or one of them is its start
-since {ℓ} : {X : Type ℓ} (cs : List Call) (t : Track) → follow t cs .held ≡ true
-    → (t .held ≡ true → goesOn t cs ≡ true → X)
+since {ℓ} : {X : Type ℓ} (cs : List Call) (t : Track) → follow t cs .capture .held ≡ true
+    → (t .capture .held ≡ true → goesOn t cs ≡ true → X)
     → ((before : List Call) (start : Call) (between : List Call) → cs ≡ before ++ (start ∷ between) → Held (follow t before) start between → X)
     → X
 unfolding follow goesOn
@@ -69,6 +69,6 @@ pub one-start : (ram store : List ℕ) (cs : List Call) → after (fresh ram sto
 unfolding atReset
 one-start ram store cs h =
     since cs (atReset (length ram) (length store))
-    (ap (λ (u : Track). u .held) (told-true ram store cs .same) ∙ h)
+    (ap (λ (u : Track). u .capture .held) (told-true ram store cs .same) ∙ h)
     (λ held _. not-both held refl)
     (λ before start between e p. record { before = before; start = start; between = between; whole = e; held = p })

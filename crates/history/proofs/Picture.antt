@@ -31,7 +31,7 @@ use Rattle.history.specs.Bits.{cycleOf, columnAt, rowAt, pixelAt, bitAt}
 use Rattle.history.proofs.Track.{Track, runsIn, starts, ends, imageIn, registersAt, lands, next, told, litBy}
 use Rattle.history.proofs.Since.{Whole, Clear, noStart, sentTold, lastTold}
 use Rattle.history.proofs.Area.{area-small}
-use Rattle.history.proofs.Follows.{Moment, at-reset, moment-next, moment-after, put-next, byte-next, cycles-total}
+use Rattle.history.proofs.Follows.{Moment, at-reset, moment-next, moment-after, put-next, byte-next}
 use Rattle.history.proofs.Touched.{passed, short-runs, ram-size, pixel-most}
 use Rattle.history.proofs.Outside.{size-after, same-size}
 use Rattle.history.proofs.Goes.{Of, rests-next, end-count, on, now-last, world-last, moment-last}
@@ -53,8 +53,8 @@ byte-small (place file) p h = area-small (pixelsOf file) (p - 0x100)
 put-bytes : (t : Track) (w : World) (m : Moment t w) (k : Call) → Bytes (w .ram) → Bytes (put-next t w m k)
 put-bytes t w m k b =
     either (ramAllowed (t .ramSize))
-    (λ ok. pixels-bytes (byteAt (w .store)) (t .taken) _ _ (w .ram) (done-most (t .taken) _) (rw (ram-size t w m k) (ram-lent (t .ramSize) ok .least)) b)
-    (λ bad. rw (short-runs t k bad, add-zero (t .ran), pixels-none (byteAt (w .store)) (t .taken) (doneBy (t .taken) (t .ran)) (w .ram)) b)
+    (λ ok. pixels-bytes (byteAt (w .store)) (t .capture .taken) _ _ (w .ram) (done-most (t .capture .taken) _) (rw (ram-size t w m k) (ram-lent (t .ramSize) ok .least)) b)
+    (λ bad. rw (short-runs t k bad, add-zero (t .capture .ran), pixels-none (byteAt (w .store)) (t .capture .taken) (doneBy (t .capture .taken) (t .capture .ran)) (w .ram)) b)
 
 bytes-next : (t : Track) (w : World) (m : Moment t w) (k : Call) → writesByte k ≡ true → Bytes (w .ram) → Bytes (leaves w k .ram)
 bytes-next t w m k small b p =
@@ -103,11 +103,11 @@ module _ (ram store : List ℕ) (before : List Call) (start : Call) (between : L
   abbrev n : ℕ
   n = counted w₀ (start ∷ between)
 
-  o : Of (imageIn start) regs n t
+  o : Of (imageIn start) regs n (t .capture)
   o = on ram store before start between (h .held)
 
   all-done : doneBy regs (n + runsIn t last) ≡ 14336
-  all-done = rw (← o .ran, end-count t last (h .over) .1, o .taken, cycles-total regs) (done-all regs)
+  all-done = rw (← o .ran, end-count t last (h .over) .1, o .taken) (done-all regs)
 
   -- so the cycle of each has run
   all-run : (j : ℕ) → j < 14336 → leb (cycleOf regs j) (n + runsIn t last) ≡ true
@@ -177,9 +177,9 @@ first-rests t k cs h = (not-true (starts t k) (both-left (not (starts t k)) (noS
 -- a byte, while no capture is held and no write lands there
 stays-next : (t : Track) (w : World) (m : Moment t w) (k : Call) (p : ℕ) → runsIn t k ≡ 0 → lands t k p ≡ false → getD (leaves w k .ram) p 0 ≡ getD (w .ram) p 0
 stays-next t w m k p still out =
-    byte-next t w m k p ∙ rw (out, still, add-zero (t .ran), pixels-none (byteAt (w .store)) (t .taken) (doneBy (t .taken) (t .ran)) (w .ram))
+    byte-next t w m k p ∙ rw (out, still, add-zero (t .capture .ran), pixels-none (byteAt (w .store)) (t .capture .taken) (doneBy (t .capture .taken) (t .capture .ran)) (w .ram))
 
-stays-through : (cs : List Call) (t : Track) (w : World) → Moment t w → t .held ≡ false → noStart t cs ≡ true → Clear inArea t cs
+stays-through : (cs : List Call) (t : Track) (w : World) → Moment t w → t .capture .held ≡ false → noStart t cs ≡ true → Clear inArea t cs
     → (p : ℕ) → inArea p ≡ true → getD (after w cs .ram) p 0 ≡ getD (w .ram) p 0
 unfolding after
 stays-through [] t w m h s c p here = refl
@@ -218,7 +218,7 @@ idle-told (k ∷ cs) t w m h =
     let rest = both-right (not (w .state .held)) (idleThrough (leaves w k) cs) h in
     both-hold (ap not (start-same t w m k ∙ none-starts w k (idle-first cs (leaves w k) rest))) (idle-told cs (next t k) (leaves w k) (moment-next t w m k) rest)
 
-pub told-idle : (cs : List Call) (t : Track) (w : World) → Moment t w → t .held ≡ false → noStart t cs ≡ true → idleThrough w cs ≡ true
+pub told-idle : (cs : List Call) (t : Track) (w : World) → Moment t w → t .capture .held ≡ false → noStart t cs ≡ true → idleThrough w cs ≡ true
 unfolding idleThrough
 told-idle [] t w m off s = ap not (sym (held-now t w m) ∙ off)
 told-idle (k ∷ cs) t w m off s =

@@ -67,7 +67,7 @@ module _ (ram store : List ℕ) (cs : List Call) (file : List ℕ) where
   unfolding placeAccepted
   placing-leaves =
       place-leaves now file (m .sound .exists)
-      ∙ ap (λ (b : Bool). pick b (withPlaced now file) now) (sym (place-number now (told ram store cs .image) (m .told .own) (m .sound .exists) file))
+      ∙ ap (λ (b : Bool). pick b (withPlaced now file) now) (sym (place-number now (told ram store cs .capture .image) (m .told .own) (m .sound .exists) file))
 
   -- Placed stays: through any calls after it, with no capture held and none that landed in the area, the area's 3,584 bytes are the file's
   pub placed-stays : (later : List Call)

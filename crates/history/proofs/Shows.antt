@@ -19,22 +19,22 @@ use Rattle.history.proofs.Goes.{Of, start-of, goes-next, end-count, end
 -- ---- a start and an end, by what is held before and after
 
 -- at a start none is held
-start-was : (t : Track) (k : Call) → starts t k ≡ true → t .held ≡ false
+start-was : (t : Track) (k : Call) → starts t k ≡ true → t .capture .held ≡ false
 unfolding starts
 start-was t reset h = not-both h refl
 start-was t (read rom a) h = not-both h refl
 start-was t (write image a v) h =
-    not-true (t .held) (both-right (eqb (v % 2) 1) _ (both-right (eqb (a % 128) 0) _ (both-right (toRegisters t image a) _ h)))
+    not-true (t .capture .held) (both-right (eqb (v % 2) 1) _ (both-right (eqb (a % 128) 0) _ (both-right (toRegisters t image a) _ h)))
 start-was t (tick n) h = not-both h refl
 start-was t inspect h = not-both h refl
 start-was t (choose light level plain exposure) h = not-both h refl
 start-was t (place file) h = not-both h refl
 
-starts-held : (t : Track) (k : Call) → starts t k ≡ (not (t .held) && next t k .held)
+starts-held : (t : Track) (k : Call) → starts t k ≡ (not (t .capture .held) && next t k .capture .held)
 starts-held t k =
     either (starts t k)
     (λ s. s ∙ sym (rw (start-of t k s .held, start-was t k s)))
-    (λ s. s ∙ sym (either (next t k .held) (λ on. rw (was-held t k s on .0)) (λ off. rw (off, and-false))))
+    (λ s. s ∙ sym (either (next t k .capture .held) (λ on. rw (was-held t k s on .0)) (λ off. rw (off, and-false))))
 
 -- a call in which a capture ends, and one after which it is held, is no reset
 end-is : (t : Track) (k : Call) → ends t k ≡ true → isReset k ≡ false
@@ -47,7 +47,7 @@ end-is t inspect h = refl
 end-is t (choose light level plain exposure) h = refl
 end-is t (place file) h = refl
 
-pub held-is : (t : Track) (k : Call) → next t k .held ≡ true → isReset k ≡ false
+pub held-is : (t : Track) (k : Call) → next t k .capture .held ≡ true → isReset k ≡ false
 unfolding isReset
 held-is t reset h = unfold next atReset in not-both h refl
 held-is t (read rom a) h = refl
@@ -58,27 +58,27 @@ held-is t (choose light level plain exposure) h = refl
 held-is t (place file) h = refl
 
 -- a capture that is held
-pub itself : (t : Track) → t .held ≡ true → Of (t .image) (t .taken) (t .ran) t
+pub itself : (t : Track) → t .capture .held ≡ true → Of (t .capture .image) (t .capture .taken) (t .capture .ran) (t .capture)
 itself t h = record { held = h; image = refl; taken = refl; ran = refl }
 
-ends-held : (t : Track) (k : Call) → ends t k ≡ (t .held && (not (isReset k) && not (next t k .held)))
+ends-held : (t : Track) (k : Call) → ends t k ≡ (t .capture .held && (not (isReset k) && not (next t k .capture .held)))
 ends-held t k =
     either (ends t k)
     (λ e. e ∙ sym (rw (end-next t k e, end-is t k e, end-count t k e .0)))
     (λ e.
     e
     ∙ sym
-    (either (t .held)
+    (either (t .capture .held)
     (λ h. either (isReset k) (λ r. rw (r, h)) (λ r. rw (goes-next t (itself t h) k r e .held, r, h)))
     (λ h. rw h)))
 
 -- ---- what is told and what the world shows
 
-pub held-now : (t : Track) (w : World) → Moment t w → t .held ≡ w .state .held
-held-now t w m = ap (λ (u : Track). u .held) (m .told .same)
+pub held-now : (t : Track) (w : World) → Moment t w → t .capture .held ≡ w .state .held
+held-now t w m = ap (λ (u : Track). u .capture .held) (m .told .same)
 
 module _ (t : Track) (w : World) (m : Moment t w) (k : Call) where
-  pub held-then : next t k .held ≡ leaves w k .state .held
+  pub held-then : next t k .capture .held ≡ leaves w k .state .held
   held-then = held-now (next t k) (leaves w k) (moment-next t w m k)
 
   pub start-same : starts t k ≡ startSeen w k
@@ -100,20 +100,20 @@ in-order true true true true on here = refl
 in-order true true true false on here = refl
 
 module _ (t : Track) (w : World) (m : Moment t w) where
-  lands-shown : (k : Call) (p : ℕ) → lands (seen w (t .image)) k p ≡ landsSeen w k p
+  lands-shown : (k : Call) (p : ℕ) → lands (seen w (t .capture .image)) k p ≡ landsSeen w k p
   unfolding lands landsSeen goesIn goesTo toRam placeOf
   lands-shown reset p = refl
   lands-shown (read rom a) p = refl
   lands-shown (write image a v) p =
-      rw (write-number w (t .image) (m .told .own) (m .sound .exists) image a v)
-      (in-order (writeAccepted (seen w (t .image)) image a) (not (ltb a 0x8000)) (not (registersOn (w .state))) (started (w .state .registers)) (w .state .enabled)
+      rw (write-number w (t .capture .image) (m .told .own) (m .sound .exists) image a v)
+      (in-order (writeAccepted (seen w (t .capture .image)) image a) (not (ltb a 0x8000)) (not (registersOn (w .state))) (started (w .state .registers)) (w .state .enabled)
       (eqb p (ramPlace (w .state) (w .ram) a))
-      ∙ both-turn (writeAccepted (seen w (t .image)) image a) _)
+      ∙ both-turn (writeAccepted (seen w (t .capture .image)) image a) _)
   lands-shown (tick n) p = refl
   lands-shown inspect p = refl
   lands-shown (choose light level plain exposure) p = refl
   lands-shown (place file) p =
-      rw (place-number w (t .image) (m .told .own) (m .sound .exists) file) (both-turn (placeAccepted (seen w (t .image)) file) (inArea p))
+      rw (place-number w (t .capture .image) (m .told .own) (m .sound .exists) file) (both-turn (placeAccepted (seen w (t .capture .image)) file) (inArea p))
 
   pub lands-same : (k : Call) (p : ℕ) → lands t k p ≡ landsSeen w k p
   lands-same k p = subst (λ (u : Track). lands u k p ≡ landsSeen w k p) (sym (m .told .same)) (lands-shown k p)

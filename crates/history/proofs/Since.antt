@@ -62,11 +62,11 @@ lastIn p t (c ∷ cs) first = lastIn p (next t c) cs (pick (lands t c p) (byteIn
 -- in a call the capture held sends its pixel to this bit: the pixel's cycle is one of the call's running cycles
 unfoldable pub sendsTold : Track → Call → ℕ → ℕ → Bool
 sendsTold t c p b =
-    inArea p && (ltb (t .ran) (cycleOf (t .taken) (pixelAt p b)) && leb (cycleOf (t .taken) (pixelAt p b)) (t .ran + runsIn t c))
+    inArea p && (ltb (t .capture .ran) (cycleOf (t .capture .taken) (pixelAt p b)) && leb (cycleOf (t .capture .taken) (pixelAt p b)) (t .capture .ran + runsIn t c))
 
 -- what a call sends to this bit, and the last thing that these calls sent there
 unfoldable pub sentTold : ℕ → ℕ → Track → Call → ℕ → ℕ
-sentTold p b t c was = pick (lands t c p) (bitOf (byteIn c p) b) (pick (sendsTold t c p b) (shadeSent (t .image) (t .taken) p b) was)
+sentTold p b t c was = pick (lands t c p) (bitOf (byteIn c p) b) (pick (sendsTold t c p b) (shadeSent (t .capture .image) (t .capture .taken) p b) was)
 
 unfoldable pub lastTold : ℕ → ℕ → Track → List Call → ℕ → ℕ
 lastTold p b t [] first = first

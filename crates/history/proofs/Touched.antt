@@ -174,7 +174,7 @@ none-between e c r z = rw z (split e c (λ l. rw (add-zero e, lt-leb c e l, and-
 
 pub still-sends : (t : Track) (k : Call) (p b : ℕ) → runsIn t k ≡ 0 → sendsTold t k p b ≡ false
 unfolding sendsTold
-still-sends t k p b z = ap (λ (s : Bool). inArea p && s) (none-between (t .ran) (cycleOf (t .taken) (pixelAt p b)) (runsIn t k) z) ∙ and-false (inArea p)
+still-sends t k p b z = ap (λ (s : Bool). inArea p && s) (none-between (t .capture .ran) (cycleOf (t .capture .taken) (pixelAt p b)) (runsIn t k) z) ∙ and-false (inArea p)
 
 -- nor outside the area
 pub out-sends : (t : Track) (k : Call) (p b : ℕ) → inArea p ≡ false → sendsTold t k p b ≡ false
@@ -186,39 +186,39 @@ module _ (t : Track) (w : World) (m : Moment t w) (k : Call) where
   ram-size = ap (λ (u : Track). u .ramSize) (sym (m .told .same))
 
   -- a shade worked out from the frame store is the one afresh from the image lent at the start
-  own-shade : w .store ≡ lightFrame (t .image) (settingOf (w .state .taken)) → (x y : ℕ) → x < 128 → y < 112
-      → pictureShade (byteAt (w .store)) (t .taken) x y ≡ pictureShade (litBy (t .image) (t .taken)) (t .taken) x y
+  own-shade : w .store ≡ lightFrame (t .capture .image) (settingOf (w .state .taken)) → (x y : ℕ) → x < 128 → y < 112
+      → pictureShade (byteAt (w .store)) (t .capture .taken) x y ≡ pictureShade (litBy (t .capture .image) (t .capture .taken)) (t .capture .taken) x y
   own-shade own x y hx hy =
       let set = settingOf (w .state .taken) in
-      ap (λ (s : List ℕ). shadeAt (byteAt s) (t .taken) x (y + 8)) own
-      ∙ rows (light-alike (t .image) set) (t .taken) x (y + 8) hx (omega arith) (omega arith) .shade
-      ∙ ap (λ (u : Track). shadeAt (litOf (t .image) (settingOf (u .taken))) (t .taken) x (y + 8)) (sym (m .told .same))
+      ap (λ (s : List ℕ). shadeAt (byteAt s) (t .capture .taken) x (y + 8)) own
+      ∙ rows (light-alike (t .capture .image) set) (t .capture .taken) x (y + 8) hx (omega arith) (omega arith) .shade
+      ∙ ap (λ (u : Track). shadeAt (litOf (t .capture .image) (settingOf (u .capture .taken))) (t .capture .taken) x (y + 8)) (sym (m .told .same))
 
   module _ (p b : ℕ) where
     abbrev Put : Type 0
-    Put = bitOf (getD (put-next t w m k) p 0) b ≡ pick (sendsTold t k p b) (shadeSent (t .image) (t .taken) p b) (bitOf (getD (w .ram) p 0) b)
+    Put = bitOf (getD (put-next t w m k) p 0) b ≡ pick (sendsTold t k p b) (shadeSent (t .capture .image) (t .capture .taken) p b) (bitOf (getD (w .ram) p 0) b)
 
     still : runsIn t k ≡ 0 → Put
-    still z = rw (still-sends t k p b z, z, add-zero (t .ran), pixels-none (byteAt (w .store)) (t .taken) (doneBy (t .taken) (t .ran)) (w .ram))
+    still z = rw (still-sends t k p b z, z, add-zero (t .capture .ran), pixels-none (byteAt (w .store)) (t .capture .taken) (doneBy (t .capture .taken) (t .capture .ran)) (w .ram))
 
     apart : inArea p ≡ false → Put
-    apart out = rw (out-sends t k p b out, pixels-outside (byteAt (w .store)) (t .taken) _ _ (w .ram) (done-most (t .taken) _) p (away p out))
+    apart out = rw (out-sends t k p b out, pixels-outside (byteAt (w .store)) (t .capture .taken) _ _ (w .ram) (done-most (t .capture .taken) _) p (away p out))
 
     -- the capture held sendsTold its own pixel
-    runs : inArea p ≡ true → b < 8 → t .held ≡ true → ramAllowed (t .ramSize) ≡ true → Put
+    runs : inArea p ≡ true → b < 8 → t .capture .held ≡ true → ramAllowed (t .ramSize) ≡ true → Put
     unfolding sendsTold shadeSent
     runs here small held ok =
-        let shade = own-shade (m .told .own (sym (ap (λ (u : Track). u .held) (m .told .same)) ∙ held)) (columnAt p b) (rowAt p) (column-small p b here small) (row-small p b here small) in
+        let shade = own-shade (m .told .own (sym (ap (λ (u : Track). u .capture .held) (m .told .same)) ∙ held)) (columnAt p b) (rowAt p) (column-small p b here small) (row-small p b here small) in
         let long : 8192 ≤ length (w .ram) = rw ram-size (ram-lent (t .ramSize) ok .least) in
         let most = pixel-most p b here small in
-        bit-put p b here small (byteAt (w .store)) (t .taken) (w .ram) (doneBy (t .taken) (t .ran)) (doneBy (t .taken) (t .ran + runsIn t k)) (done-most (t .taken) _) long
-        ∙ rw (here, waiting (t .taken) (pixelAt p b) (t .ran) most, passed (t .taken) (pixelAt p b) (t .ran + runsIn t k) most, shade)
+        bit-put p b here small (byteAt (w .store)) (t .capture .taken) (w .ram) (doneBy (t .capture .taken) (t .capture .ran)) (doneBy (t .capture .taken) (t .capture .ran + runsIn t k)) (done-most (t .capture .taken) _) long
+        ∙ rw (here, waiting (t .capture .taken) (pixelAt p b) (t .capture .ran) most, passed (t .capture .taken) (pixelAt p b) (t .capture .ran + runsIn t k) most, shade)
 
     put : (inArea p ≡ true → b < 8) → Put
     put small =
         either (inArea p)
         (λ here.
-        either (t .held)
+        either (t .capture .held)
         (λ held. either (ramAllowed (t .ramSize)) (λ ok. runs here (small here) held ok) (λ bad. still (short-runs t k bad)))
         (λ off. still (idle-runs t k off)))
         apart
@@ -268,9 +268,9 @@ lent-other w image inspect h = refl
 lent-other w image (choose light level plain exposure) h = refl
 lent-other w image (place file) h = refl
 
-module _ (t : Track) (w : World) (m : Moment t w) (image : List ℕ) (own : t .held ≡ true → t .image ≡ image) (k : Call) where
+module _ (t : Track) (w : World) (m : Moment t w) (image : List ℕ) (own : t .capture .held ≡ true → t .capture .image ≡ image) (k : Call) where
   -- the image of the capture held
-  lent-next : next t k .held ≡ true → next t k .image ≡ lentIn w k image
+  lent-next : next t k .capture .held ≡ true → next t k .capture .image ≡ lentIn w k image
   lent-next on =
       either (starts t k)
       (λ s. start-of t k s .image ∙ sym (lent-start t w image k s (sym (start-same t w m k) ∙ s)))
@@ -282,7 +282,7 @@ module _ (t : Track) (w : World) (m : Moment t w) (image : List ℕ) (own : t .h
     sends-same : sendsTold t k p b ≡ sends w k p b
     unfolding sendsTold sends
     sends-same =
-        ap (λ (u : Track). inArea p && (ltb (u .ran) (cycleOf (u .taken) (pixelAt p b)) && leb (cycleOf (u .taken) (pixelAt p b)) (u .ran + runsIn t k))) (m .told .same)
+        ap (λ (u : Track). inArea p && (ltb (u .capture .ran) (cycleOf (u .capture .taken) (pixelAt p b)) && leb (cycleOf (u .capture .taken) (pixelAt p b)) (u .capture .ran + runsIn t k))) (m .told .same)
         ∙ rw (count-next t w m k)
 
     sent-same : (was : ℕ) → sentTold p b t k was ≡ sentIn p b w image k was
@@ -290,12 +290,12 @@ module _ (t : Track) (w : World) (m : Moment t w) (image : List ℕ) (own : t .h
     sent-same was =
         rw (lands-same t w m k p)
         (ap (pick (landsSeen w k p) (bitOf (byteIn k p) b))
-        (either (t .held)
+        (either (t .capture .held)
         (λ h.
-        rw (sends-same, own h) (ap (λ (u : Track). pick (sends w k p b) (shadeSent image (u .taken) p b) was) (m .told .same)))
+        rw (sends-same, own h) (ap (λ (u : Track). pick (sends w k p b) (shadeSent image (u .capture .taken) p b) was) (m .told .same)))
         (λ h. let off : sendsTold t k p b ≡ false = still-sends t k p b (idle-runs t k h) in rw (off, sym sends-same ∙ off))))
 
-last-sent : (p b : ℕ) (cs : List Call) (t : Track) (w : World) → Moment t w → (image : List ℕ) → (t .held ≡ true → t .image ≡ image) → (first : ℕ)
+last-sent : (p b : ℕ) (cs : List Call) (t : Track) (w : World) → Moment t w → (image : List ℕ) → (t .capture .held ≡ true → t .capture .image ≡ image) → (first : ℕ)
     → lastTold p b t cs first ≡ lastSent p b w image cs first
 unfolding lastTold lastSent
 last-sent p b [] t w m image own first = refl

@@ -11,6 +11,7 @@ use Rattle.laws.specs.Bits.{isSet}
 use Rattle.lighting.specs.Taken.{settingOf}
 use Rattle.lighting.specs.Light.{lightFrame, litOf}
 use Rattle.timing.specs.Lent.{ramAllowed, frameAllowed}
+use Rattle.timing.specs.Timing.{totalOf}
 use Rattle.controller.specs.State.{started, noRegisters}
 use Rattle.controller.specs.Table.{onCartridge}
 use Rattle.desk.specs.Choice.{beyond, registersChosen}
@@ -18,18 +19,25 @@ use Rattle.placing.specs.Placing.{isPlate}
 use Rattle.history.specs.History.{Call, reset, read, write, tick, inspect, choose, place, World}
 use Rattle.history.specs.Seen.{inArea}
 
--- the sizes lent; RAM writing enabled, select and registers, as the writes left them; whether a capture is held, and of that capture
--- the image lent and the registers at its start, and the running cycles since
+-- whether a capture is held, and of that capture the image lent and the registers at its start, and the running cycles since
+pub record Capture : Type 0 where
+  pub held : Bool
+  pub image : List ℕ
+  pub taken : List ℕ
+  pub ran : ℕ
+
+-- the sizes lent; RAM writing enabled, select and registers, as the writes left them; the capture
 pub record Track : Type 0 where
   pub ramSize : ℕ
   pub storeSize : ℕ
   pub enabled : Bool
   pub select : ℕ
   pub registers : List ℕ
-  pub held : Bool
-  pub image : List ℕ
-  pub taken : List ℕ
-  pub ran : ℕ
+  pub capture : Capture
+
+-- none is held
+abbrev pub noCapture : Capture
+noCapture = record { held = false; image = []; taken = noRegisters; ran = 0 }
 
 -- Reset: write enable off, select 0, all registers 0, no capture held
 unfoldable pub atReset : ℕ → ℕ → Track
@@ -39,10 +47,7 @@ atReset r s = record {
   enabled = false;
   select = 0;
   registers = noRegisters;
-  held = false;
-  image = [];
-  taken = noRegisters;
-  ran = 0;
+  capture = noCapture;
 }
 
 -- a write is accepted where RAM, frame store and image are of a size allowed and the address is the cartridge's
@@ -60,18 +65,14 @@ choiceAccepted light level = not (beyond light level)
 
 -- a placing where RAM is of a size allowed, the file is of the kind that is exported and no capture is held
 unfoldable pub placeAccepted : Track → List ℕ → Bool
-placeAccepted t file = ramAllowed (t .ramSize) && (isPlate file && not (t .held))
-
--- Total cycles = 32,446 + (N set: 0, clear: 512) + 16 × exposure; exposure = A002 × 256 + A003, N is bit 7 of A001
-unfoldable pub cyclesOf : List ℕ → ℕ
-cyclesOf regs = 32446 + pick (isSet (getD regs 1 0) 7) 0 512 + 16 * (getD regs 2 0 * 256 + getD regs 3 0)
+placeAccepted t file = ramAllowed (t .ramSize) && (isPlate file && not (t .capture .held))
 
 -- the running cycles of a call: those of a tick while a capture is held and register 0 has bit 0 set, up to the capture's total
 unfoldable pub runsIn : Track → Call → ℕ
 runsIn t reset = 0
 runsIn t (read rom a) = 0
 runsIn t (write image a v) = 0
-runsIn t (tick n) = pick (tickAccepted t && (t .held && started (t .registers))) (min n (cyclesOf (t .taken) - t .ran)) 0
+runsIn t (tick n) = pick (tickAccepted t && (t .capture .held && started (t .registers))) (min n (totalOf (t .capture .taken) - t .capture .ran)) 0
 runsIn t inspect = 0
 runsIn t (choose light level plain exposure) = 0
 runsIn t (place file) = 0
@@ -81,7 +82,7 @@ unfoldable pub ends : Track → Call → Bool
 ends t reset = false
 ends t (read rom a) = false
 ends t (write image a v) = false
-ends t (tick n) = t .held && eqb (t .ran + runsIn t (tick n)) (cyclesOf (t .taken))
+ends t (tick n) = t .capture .held && eqb (t .capture .ran + runsIn t (tick n)) (totalOf (t .capture .taken))
 ends t inspect = false
 ends t (choose light level plain exposure) = false
 ends t (place file) = false
@@ -94,7 +95,7 @@ toRegisters t image a = writeAccepted t image a && (not (ltb a 0x8000) && isSet 
 unfoldable pub starts : Track → Call → Bool
 starts t reset = false
 starts t (read rom a) = false
-starts t (write image a v) = toRegisters t image a && (eqb (a % 128) 0 && (eqb (v % 2) 1 && not (t .held)))
+starts t (write image a v) = toRegisters t image a && (eqb (a % 128) 0 && (eqb (v % 2) 1 && not (t .capture .held)))
 starts t (tick n) = false
 starts t inspect = false
 starts t (choose light level plain exposure) = false
@@ -139,52 +140,37 @@ lands t inspect p = false
 lands t (choose light level plain exposure) p = false
 lands t (place file) p = placeAccepted t file && inArea p
 
--- what is told, with this enabling, select and registers; the capture stays
-abbrev pub controls : Track → Bool → ℕ → List ℕ → Track
-controls t enabled select registers = record {
+-- what is told, with this enabling, select, registers and capture; the sizes stay
+abbrev pub telling : Track → Bool → ℕ → List ℕ → Capture → Track
+telling t enabled select registers capture = record {
   ramSize = t .ramSize;
   storeSize = t .storeSize;
   enabled = enabled;
   select = select;
   registers = registers;
-  held = t .held;
-  image = t .image;
-  taken = t .taken;
-  ran = t .ran;
+  capture = capture;
 }
 
 unfoldable pub enabling : Track → Bool → Track
-enabling t b = controls t b (t .select) (t .registers)
+enabling t b = telling t b (t .select) (t .registers) (t .capture)
 
 unfoldable pub selecting : Track → ℕ → Track
-selecting t n = controls t (t .enabled) n (t .registers)
+selecting t n = telling t (t .enabled) n (t .registers) (t .capture)
 
 unfoldable pub storing : Track → List ℕ → Track
-storing t regs = controls t (t .enabled) (t .select) regs
-
--- what is told, with these registers and this capture: held or not, its image, its registers, its cycles
-abbrev pub captures : Track → List ℕ → Bool → List ℕ → List ℕ → ℕ → Track
-captures t registers held image taken ran = record {
-  ramSize = t .ramSize;
-  storeSize = t .storeSize;
-  enabled = t .enabled;
-  select = t .select;
-  registers = registers;
-  held = held;
-  image = image;
-  taken = taken;
-  ran = ran;
-}
+storing t regs = telling t (t .enabled) (t .select) regs (t .capture)
 
 -- a capture begun, moved on, ended
 unfoldable pub beginning : Track → List ℕ → List ℕ → Track
-beginning t image regs = captures t regs true image regs 0
+beginning t image regs = telling t (t .enabled) (t .select) regs (record { held = true; image = image; taken = regs; ran = 0 })
 
 unfoldable pub running : Track → ℕ → Track
-running t n = captures t (t .registers) (t .held) (t .image) (t .taken) n
+running t n =
+    telling t (t .enabled) (t .select) (t .registers)
+    (record { held = t .capture .held; image = t .capture .image; taken = t .capture .taken; ran = n })
 
 unfoldable pub ending : Track → Track
-ending t = captures t (set (t .registers) 0 (getD (t .registers) 0 0 / 2 * 2)) false (t .image) noRegisters 0
+ending t = telling t (t .enabled) (t .select) (set (t .registers) 0 (getD (t .registers) 0 0 / 2 * 2)) noCapture
 
 -- 0000-1FFF: 0A enables, 00 disables RAM writing. 4000-5FFF: select is the low five bits
 unfoldable pub controlled : Track → ℕ → ℕ → Track
@@ -197,7 +183,7 @@ controlled t a v =
 unfoldable pub registered : Track → List ℕ → ℕ → ℕ → Track
 registered t image i v =
     pick (eqb i 0)
-    (pick (eqb (v % 2) 1 && not (t .held)) (beginning t image (set (t .registers) 0 (v % 8))) (storing t (set (t .registers) 0 (v % 8))))
+    (pick (eqb (v % 2) 1 && not (t .capture .held)) (beginning t image (set (t .registers) 0 (v % 8))) (storing t (set (t .registers) 0 (v % 8))))
     (pick (ltb i 54) (storing t (set (t .registers) i v)) t)
 
 unfoldable pub written : Track → List ℕ → ℕ → ℕ → Track
@@ -209,7 +195,7 @@ unfoldable pub next : Track → Call → Track
 next t reset = atReset (t .ramSize) (t .storeSize)
 next t (read rom a) = t
 next t (write image a v) = pick (writeAccepted t image a) (written t image a v) t
-next t (tick n) = pick (ends t (tick n)) (ending t) (running t (t .ran + runsIn t (tick n)))
+next t (tick n) = pick (ends t (tick n)) (ending t) (running t (t .capture .ran + runsIn t (tick n)))
 next t inspect = t
 next t (choose light level plain exposure) =
     pick (choiceAccepted light level) (storing t (registersChosen (t .registers) light level plain exposure)) t
@@ -232,10 +218,7 @@ seen w image = record {
   enabled = w .state .enabled;
   select = w .state .select;
   registers = w .state .registers;
-  held = w .state .held;
-  image = image;
-  taken = w .state .taken;
-  ran = w .state .elapsed .0;
+  capture = record { held = w .state .held; image = image; taken = w .state .taken; ran = w .state .elapsed .0 };
 }
 
 -- the lit values of an image, by the registers taken
@@ -245,5 +228,5 @@ litBy image regs = litOf image (settingOf regs)
 -- what is told is true of a world: it is what the world shows, and while a capture is held the frame store is the light of the image told, by
 -- the registers taken
 pub record Told (t : Track) (w : World) : Type 0 where
-  pub same : t ≡ seen w (t .image)
-  pub own : w .state .held ≡ true → w .store ≡ lightFrame (t .image) (settingOf (w .state .taken))
+  pub same : t ≡ seen w (t .capture .image)
+  pub own : w .state .held ≡ true → w .store ≡ lightFrame (t .capture .image) (settingOf (w .state .taken))

@@ -12,7 +12,7 @@ use Rattle.laws.proofs.Bools.{both-right}
 use Rattle.laws.proofs.Order.{split}
 use Rattle.lighting.specs.Taken.{exposureOf}
 use Rattle.timing.specs.Lent.{banksAllowed}
-use Rattle.timing.specs.Timing.{readingFrom, firstRow}
+use Rattle.timing.specs.Timing.{totalOf, readingFrom, firstRow}
 use Rattle.tiles.specs.Tiles.{shadeIn, areaOf, Bytes}
 use Rattle.tiles.specs.Picture.{pictureShade, pictureOf}
 use Rattle.controller.specs.Table.{onCartridge}
@@ -21,7 +21,7 @@ use Rattle.placing.proofs.RoundTrip.{out-in, plate-is}
 use Rattle.history.specs.History.{Call, reset, read, write, tick, inspect, place, fresh, after, counted}
 use Rattle.history.specs.Seen.{inArea, byteIn, isReset, writesByte, bytesIn}
 use Rattle.history.specs.Bits.{cycleOf}
-use Rattle.history.proofs.Track.{atReset, writeAccepted, tickAccepted, placeAccepted, cyclesOf, runsIn, ends, toRegisters, starts, imageIn, registersAt, toRam, placeOf, lands, enabling, selecting, storing, beginning, running, ending, controlled, registered, written, next, follow, told, litBy}
+use Rattle.history.proofs.Track.{atReset, writeAccepted, tickAccepted, placeAccepted, runsIn, ends, toRegisters, starts, imageIn, registersAt, toRam, placeOf, lands, enabling, selecting, storing, beginning, running, ending, controlled, registered, written, next, follow, told, litBy}
 use Rattle.history.proofs.Since.{goesOn, Held, Whole, ofPixel, landed, Clear, noStart, lastIn, tallyTold, startsTold, endsTold}
 use Rattle.history.proofs.Shows.{landed-same, starts-told, ends-told}
 use Rattle.history.proofs.Counts.{Counts, started-counts, ended-counts}
@@ -106,7 +106,7 @@ pub record Premises : Type 0 where
   -- at the stop; no write landed in any pixel
   pub held : Held (told ram store before) start stopped
   pub unwritten : (j : ℕ) → Clear (ofPixel j) (next (told ram store before) start) stopped
-  pub ran : follow (next (told ram store before) start) stopped .ran ≡ 3000
+  pub ran : follow (next (told ram store before) start) stopped .capture .ran ≡ 3000
   -- the placing before the start is accepted, and until the start its bytes stay
   pub accepted : placeAccepted (atReset (length ram) (length store)) file ≡ true
   pub waits : noStart (atReset (length ram) (length store)) set-up ≡ true
@@ -119,12 +119,12 @@ pub record Premises : Type 0 where
   pub told-reset : (startsTold ram store (calls ++ (reset ∷ [])) ≡ 0) × (endsTold ram store (calls ++ (reset ∷ [])) ≡ 0)
 
 -- 1000h is no place of the area
-beside : (p : ℕ) → inArea p ≡ true → eqb p 0x1000 ≡ false
+pub beside : (p : ℕ) → inArea p ≡ true → eqb p 0x1000 ≡ false
 unfolding inArea
 beside p here = ne-eqb p 0x1000 (λ e. omega (arith, leb-true p 0xEFF (both-right (leb 0x100 p) (leb p 0xEFF) here)))
 
 pub premises : Premises
-unfolding registersAt starts toRegisters writeAccepted tickAccepted banksAllowed ones onesIn onCartridge follow next atReset written registered controlled enabling selecting storing beginning running ending ends runsIn cyclesOf goesOn isReset landed inArea toRam placeOf lands byteIn writesByte bytesIn lastIn noStart placeAccepted tallyTold
+unfolding registersAt starts toRegisters writeAccepted tickAccepted banksAllowed ones onesIn onCartridge follow next atReset written registered controlled enabling selecting storing beginning running ending ends runsIn totalOf exposureOf goesOn isReset landed inArea toRam placeOf lands byteIn writesByte bytesIn lastIn noStart placeAccepted tallyTold
 premises = record {
   regs-at-start = refl;
   whole = record { held = record { begins = refl; goes = refl }; over = refl };
@@ -154,8 +154,8 @@ ram-bytes = all-bytes 0xFF (omega arith)
 
 -- Worked cycles: 32,446 + 512 + 16 × 16 are counted, though 500 cycles stood still and more were given than were left
 pub worked-cycles : counted (after (fresh ram store) before) (start ∷ (between ++ (last ∷ []))) ≡ 33214
-unfolding cyclesOf
-worked-cycles = cycles ram store before start between last (premises .whole) ∙ ap cyclesOf (premises .regs-at-start)
+unfolding totalOf exposureOf
+worked-cycles = cycles ram store before start between last (premises .whole) ∙ ap totalOf (premises .regs-at-start)
 
 -- Worked picture: the picture of the first image, with the exposure at the start
 pub worked-picture : areaOf (after (fresh ram store) calls .ram) ≡ pictureOf (litBy image regs) regs

@@ -10,7 +10,7 @@ use Rattle.laws.specs.Bits.{bitOf}
 use Rattle.laws.proofs.Packed.{listed-at}
 use Rattle.lighting.specs.Taken.{exposureOf}
 use Rattle.timing.specs.Lent.{banksAllowed}
-use Rattle.timing.specs.Timing.{readingFrom, firstRow}
+use Rattle.timing.specs.Timing.{totalOf, readingFrom, firstRow}
 use Rattle.tiles.specs.Picture.{pictureShade}
 use Rattle.controller.specs.Table.{onCartridge}
 use Rattle.placing.specs.Placing.{pixelsOf, placedByte, placedArea}
@@ -18,7 +18,7 @@ use Rattle.placing.proofs.RoundTrip.{out-in, plate-is}
 use Rattle.history.specs.History.{Call, write, tick, place, fresh, after}
 use Rattle.history.specs.Seen.{inArea, byteIn}
 use Rattle.history.specs.Bits.{cycleOf, bitAt, shadeSent}
-use Rattle.history.proofs.Track.{atReset, writeAccepted, tickAccepted, placeAccepted, cyclesOf, runsIn, ends, toRam, placeOf, lands, enabling, selecting, storing, beginning, running, ending, controlled, registered, written, next, litBy}
+use Rattle.history.proofs.Track.{atReset, writeAccepted, tickAccepted, placeAccepted, runsIn, ends, toRam, placeOf, lands, enabling, selecting, storing, beginning, running, ending, controlled, registered, written, next, litBy}
 use Rattle.history.proofs.Since.{sendsTold, sentTold, lastTold}
 use Rattle.history.proofs.Touched.{touched-told}
 use Rattle.worked.proofs.Worked.{ram, store, image, other, white, file, set-up, start, regs, all-bytes}
@@ -60,7 +60,7 @@ pub record Sent : Type 0 where
   pub never : last-sent calls 0x1000 3 ≡ 1
 
 sent : Sent
-unfolding lastTold sentTold sendsTold shadeSent bitAt cycleOf readingFrom firstRow exposureOf writeAccepted tickAccepted banksAllowed ones onesIn onCartridge next atReset written registered controlled enabling selecting storing beginning running ending ends runsIn cyclesOf inArea toRam placeOf lands byteIn placeAccepted
+unfolding lastTold sentTold sendsTold shadeSent bitAt cycleOf readingFrom firstRow exposureOf writeAccepted tickAccepted banksAllowed ones onesIn onCartridge next atReset written registered controlled enabling selecting storing beginning running ending ends runsIn totalOf inArea toRam placeOf lands byteIn placeAccepted
 sent = record {
   at-the-stop = refl;
   then-write = refl;
