@@ -315,10 +315,6 @@ module _ (rom : List ℕ) (w : World) (b line : List ℕ) (l : Long b) where
         (λ t. absurd (one-more (noted b writes) (sym (rw t at line-writes) ∙ z)))
         (λ t. (sym (rw t at line-writes) ∙ z, t))
 
-    -- some after it and none before it: it lands there
-    line-some : (noted (auditOf rom w b line .book) writes ≡ 0 → ⊥) → noted b writes ≡ 0 → touches (found w) k ≡ true
-    line-some some z = either (touches (found w) k) (λ t. t) (λ t. absurd (some ((rw t at line-writes) ∙ z)))
-
     lands-nowhere : touches (found w) k ≡ false → (p : ℕ) → inArea p ≡ true → landsSeen (found w) k p ≡ false
     unfolding touches writeSeen
     lands-nowhere t p here =

@@ -1,8 +1,8 @@
 -- Each exported function's meaning, case by case: bytes that are no record, a refusal, and what is done. Assumes nothing.
-use mathlib.Core.Path.{_≡_, refl, sym, ap, _∙_}
-use mathlib.Core.Bool.{true, false, not}
+use mathlib.Core.Path.{_≡_, sym, ap, _∙_}
+use mathlib.Core.Bool.{true, false}
 use mathlib.Core.List.{List, []}
-use Prim.Native.Nat.{ℕ, zero, suc}
+use Prim.Native.Nat.{ℕ}
 use lib.Dec.{eqb}
 use lib.ListN.{length}
 use Rattle.controller.specs.declared.Controller.{Controller}
@@ -13,11 +13,9 @@ use Rattle.controller.specs.declared.WriteDone.{WriteDone}
 use Rattle.controller.specs.State.{resetState}
 use Rattle.tiles.specs.Tiles.{Bytes}
 use Rattle.controller.specs.Outcome.{Outcome, outcome, numberOf, writeNumber, writeOutcome, inspection}
-use Rattle.cartridge.specs.Calls.{readRows, readMeans, writeMeans}
+use Rattle.cartridge.specs.Calls.{readMeans, writeMeans}
 use Rattle.capture.specs.Calls.{tickMeans}
 use Rattle.controller.specs.Inspect.{inspectMeans, named}
-use Rattle.controller.specs.Table.{lowest}
-use Rattle.cartridge.proofs.Refusals.{read-refuses}
 use Rattle.desk.specs.declared.choice.Exposure.{Exposure}
 use Rattle.desk.specs.Choice.{chooseMeans}
 use Rattle.desk.proofs.Choices.{choose-refuses}
@@ -47,14 +45,6 @@ unfolding resetBytes
 reset-done s h = simp h
 
 -- ---- read
-
--- a read hands back the state given, refused or not
-pub read-state : (c : Controller) (rom ram : List ℕ) (a : ℕ) → readMeans c rom ram a .state ≡ c
-read-state c rom ram a = by-number (lowest (readRows c rom ram a)) refl
-  where
-    by-number : (n : ℕ) → lowest (readRows c rom ram a) ≡ n → readMeans c rom ram a .state ≡ c
-    by-number zero e = λ i. read-refuses c rom ram a .does e i .state
-    by-number (suc k) e = λ i. read-refuses c rom ram a .kept k e i .state
 
 module _ (s rom ram : List ℕ) (a : ℕ) where
   pub read-unread : isRecord s ≡ false → readBytes s rom ram a ≡ unread s ram []

@@ -11,11 +11,8 @@ use lib.Signed.{nonNeg}
 use mir.Facts.{and-yes}
 use lib.Dec.{T, eqb, eqb→eq, ltb, ltb→lt, lit≤}
 use Rattle.laws.proofs.Table.{at}
-use Rattle.laws.proofs.Pick.{pick-ind}
-use Rattle.lighting.specs.declared.Setting.{Setting}
-use Rattle.lighting.specs.Taken.{alphas, quartersOf, settingOf}
-use Rattle.lighting.specs.Aside.{Sane}
-use Rattle.lighting.specs.Light.{adaptedZ, adapted, exposed, turned, lightOf}
+use Rattle.lighting.specs.Taken.{alphas}
+use Rattle.lighting.specs.Light.{adaptedZ, adapted, turned}
 
 -- ---- the adaptation
 
@@ -59,13 +56,6 @@ bytes-product a b h k =
     let n : b ≤ 255 = omega arith in
     mul-le-mul m n
 
--- ---- the light
-
--- the light of any byte is a byte
-pub light-small : (set : Setting) (v : ℕ) → lightOf set v < 256
-unfolding lightOf turned exposed
-light-small set v = pick-ind (λ n. n < 256) (set .inverted) (λ e. omega arith) (λ e. omega arith)
-
 -- ---- what the registers ask
 
 pub quarters-small : (k : ℕ) → getD alphas k 0 ≤ 20
@@ -78,11 +68,6 @@ quarters-small (suc (suc (suc (suc (suc zero))))) = lit≤ tt
 quarters-small (suc (suc (suc (suc (suc (suc zero)))))) = lit≤ tt
 quarters-small (suc (suc (suc (suc (suc (suc (suc zero))))))) = lit≤ tt
 quarters-small (suc (suc (suc (suc (suc (suc (suc (suc k)))))))) = lit≤ tt
-
--- whatever the registers hold
-pub setting-sane : (regs : List ℕ) → Sane (settingOf regs)
-unfolding settingOf quartersOf
-setting-sane regs = record { quarters = quarters-small (getD regs 4 0 / 16 % 8) }
 
 -- α in quarters, worked out: below level 4, and from there on
 pub alpha-low : (n : ℕ) → n < 4 → n + 2 ≡ getD alphas n 0

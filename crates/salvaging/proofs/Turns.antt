@@ -107,10 +107,6 @@ module _ (lines : List (List ℕ)) (h : ℕ) (enough : h + h ≤ length lines) w
   unfolding doubled one two
   halves = rw (first, second)
 
-  pub earlier-is : earlier (take (h + h) lines) ≡ take h lines
-  unfolding one
-  earlier-is = first
-
 -- an even number of lines, with the places where its halves begin
 module _ (lines : List (List ℕ)) (n : ℕ) (enough : n ≤ length lines) (some : n / 2 ≡ 0 → ⊥) (even : n % 2 ≡ 0) where
   abbrev h : ℕ

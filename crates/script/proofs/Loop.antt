@@ -1,16 +1,16 @@
 -- Feeding a text in pieces cut anywhere, into buffers of 11 bytes and more, is the whole text's session. Assumes nothing.
 use mathlib.Core.Path.{_≡_, refl, sym, ap, _∙_}
 use mathlib.Core.List.{List, [], _∷_, _++_, append-assoc}
-use Prim.Native.Nat.{ℕ, zero, suc, _+_, _-_, _<_, _≤_}
+use Prim.Native.Nat.{ℕ, zero, suc, _-_, _<_, _≤_}
 use native.Mathlib.Nat.{zero-add}
 use native.Mathlib.Omega.{arith}
-use lib.ListN.{length, take, drop, replicate, length-drop, length-replicate, take-append-drop}
+use lib.ListN.{length, take, drop, length-drop, take-append-drop}
 use Rattle.lines.specs.Hex.{placed}
 use Rattle.lines.proofs.Placed.{take-placed}
 use Rattle.script.specs.declared.text.Reader.{Reader}
 use Rattle.session.specs.Session.{World, Step, step}
 use Rattle.script.specs.Text.{after, sessionOf}
-use Rattle.script.specs.Pieces.{Reading, readAll, fed, opened, feedMeans, readerOf, inPieces, joined, newReader}
+use Rattle.script.specs.Pieces.{Reading, readAll, fed, opened, feedMeans, readerOf, inPieces, joined}
 use Rattle.script.specs.Loop.{Playing, playingFrom, call, called, pieceRead, looped}
 use Rattle.script.proofs.Whole.{closing, fed-is, fed-moves, pieces-read, whole}
 
@@ -89,7 +89,3 @@ module _ (rom : List ℕ) (outs : ℕ → List ℕ) (room : (k : ℕ) → 11 ≤
   pub loop : (w : World) (pieces : List (List ℕ)) → looped rom outs (playingFrom w) pieces ≡ sessionOf rom w (joined pieces)
   unfolding onward
   loop w pieces = all-read (playingFrom w) pieces ∙ whole rom w pieces
-
--- buffers of 11 bytes, which are the smallest
-pub loop-least : (rom : List ℕ) (w : World) (pieces : List (List ℕ)) → looped rom (λ k. replicate 11 0) (playingFrom w) pieces ≡ sessionOf rom w (joined pieces)
-loop-least rom w pieces = loop rom (λ k. replicate 11 0) (λ k. omega (arith, length-replicate {A = ℕ} 11 0)) w pieces

@@ -1,6 +1,6 @@
 -- Every starred figure agrees: one test, computed over the whole table. Assumes nothing.
 use mathlib.Core.Bool.{Bool, true, false}
-use mathlib.Core.Path.{_≡_, refl, ap}
+use mathlib.Core.Path.{_≡_, ap}
 use mathlib.Core.List.{List, [], _∷_}
 use Prim.Native.Nat.{ℕ, _+_, _*_, _≤_}
 use native.Mathlib.Omega.{arith}
@@ -18,8 +18,7 @@ use Rattle.sensor.specs.Shade.{valueAt, shadeOf, shadeAt}
 use Rattle.timing.specs.Timing.{nSet, totalOf, readingFrom, rowsRead, firstRow, due, putPixel, writtenAt}
 use Rattle.tiles.specs.Tiles.{Bytes, putAt}
 use Rattle.laws.specs.Lists.{packed}
-use Rattle.timing.specs.Aside.{pictureFrom, doneBy}
-use Rattle.starred.specs.Figures.{Figure, Agree, registers, table, firstCycle, shown, changed}
+use Rattle.starred.specs.Figures.{Figure, Agree, table, firstCycle, shown, changed}
 
 -- the test of two numbers with signs
 same : ℤ → ℤ → Bool
@@ -56,11 +55,6 @@ agree (row ∷ rows) t =
 pub figures : Agree table
 unfolding same agrees table firstCycle shown changed putBit totalOf readingFrom rowsRead firstRow due writtenAt putPixel putAt packed exposureOf modeOf quartersOf kindOf settingOf invertedOf adaptedZ adapted exposed turned lightOf litOf held edgeOf mode2 modeD modeE signedAt nineOf threeOf step4 passes rowFilter step5 valueAt shadeOf shadeAt
 figures = agree table tt
-
--- nor is any other pixel of the picture done before its first
-pub none-before : (doneBy (registers 1 0x00 0x00 0x00 0) 2233 ≡ 0) × (doneBy (registers 1 0x00 0x00 0x00 0) 2234 ≡ 1) × (doneBy (registers 1 0x80 0x00 0x00 0) 1977 ≡ 0) × (doneBy (registers 1 0x80 0x00 0x00 0) 1978 ≡ 1)
-unfolding pictureFrom doneBy readingFrom exposureOf
-none-before = (refl, refl, refl, refl)
 
 -- No capture takes longer than the largest total.
 pub largest : (regs : List ℕ) → Bytes regs → totalOf regs ≤ 1081518

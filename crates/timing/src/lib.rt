@@ -12,7 +12,7 @@ ghost use Rattle.tiles.specs.Aside.{pixels};
 ghost use Rattle.timing.specs.Lent.{banksAllowed, romAllowed, ramAllowed};
 ghost use Rattle.timing.specs.Registers.{allZero};
 ghost use Rattle.timing.specs.Timing.{nSet, clocks, totalOf};
-ghost use Rattle.timing.specs.Aside.{pictureFrom, doneBy, sumOf};
+ghost use Rattle.timing.specs.Aside.{pictureFrom, doneBy};
 
 // Image and frame store: 128 * 128 bytes.
 pub const FRAME: usize = 16384;
