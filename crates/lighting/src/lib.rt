@@ -58,7 +58,7 @@ impl Setting {
 }
 
 // Step 3: 255 - v if the picture is turned to its negative.
-pub fn turn(inverted: bool, v: u8) -> u8
+fn turn(inverted: bool, v: u8) -> u8
     ensures { λ r. ⌜ r ≡ turned inverted v ⌝ }
 {
     if inverted {

@@ -1,3 +1,3 @@
 // The events of an audit as text.
 pub mod events;
-pub mod words;
+mod words;

@@ -9,7 +9,7 @@ ghost use Rattle.wording.specs.Words.{decimal};
 ghost use Rattle.wording.specs.Aside.{Put, countIn, digitsIn};
 
 // Puts a word: its bytes.
-pub fn put_word(out: &mut [u8], at: usize, word: &[u8]) -> usize
+pub(crate) fn put_word(out: &mut [u8], at: usize, word: &[u8]) -> usize
     requires { ⌜ at + length (now word) ≤ length (now out) ⌝ }
     ensures { λ r. ⌜ Put (now (out .entry)) at (now (word .entry)) (length (now (word .entry))) (now (out .exit)) r ⌝ }
 {
@@ -52,7 +52,7 @@ fn put_decimal(out: &mut [u8], at: usize, digits: usize, v: u64)
 }
 
 // Puts a decimal number without leading zeros.
-pub fn put_number(out: &mut [u8], at: usize, n: u64) -> usize
+fn put_number(out: &mut [u8], at: usize, n: u64) -> usize
     requires { ⌜ at + 20 ≤ length (now out) ⌝ }
     ensures { λ r. ⌜ Put (now (out .entry)) at (decimal n) 20 (now (out .exit)) r ⌝ }
 {
@@ -62,7 +62,7 @@ pub fn put_number(out: &mut [u8], at: usize, n: u64) -> usize
 }
 
 // Puts a value in so many hexadecimal digits.
-pub fn put_hex(out: &mut [u8], at: usize, digits: usize, value: u32) -> usize
+fn put_hex(out: &mut [u8], at: usize, digits: usize, value: u32) -> usize
     requires { ⌜ at + digits ≤ length (now out) ⌝ }
     ensures { λ r. ⌜ Put (now (out .entry)) at (hexText digits value) digits (now (out .exit)) r ⌝ }
 {
