@@ -2,7 +2,7 @@
 use mathlib.Core.Path.{_≡_, refl, sym, ap, _∙_}
 use mathlib.Core.Bool.{Bool, true, false, not, _&&_, _||_, and-false}
 use mathlib.Core.List.{List, [], _∷_}
-use Prim.Native.Nat.{ℕ, _+_, _-_, _<_, _≤_}
+use Prim.Native.Nat.{ℕ, _+_, _<_, _≤_}
 use native.Mathlib.Omega.{arith}
 use lib.Dec.{eqb}
 use lib.ListN.{length, set}
@@ -10,7 +10,7 @@ use lib.Seq.{getD-set-same, getD-set-other}
 use borrow.Author.Tests.{eqb-true, eqb-false, ne-eqb}
 use Rattle.laws.specs.Pick.{pick}
 use Rattle.laws.proofs.Bools.{either, not-both}
-use Rattle.laws.proofs.Pick.{pick-ind, never}
+use Rattle.laws.proofs.Pick.{pick-ind}
 use Rattle.crc.specs.Crc.{crcOf}
 use Rattle.controller.specs.State.{resetState}
 use Rattle.plates.specs.Grey.{plateOf}
@@ -122,7 +122,7 @@ adds k (whole s c p) = eqb k book.ended || eqb k book.whole
 adds k (touched s c p n f t) = eqb k book.ended
 
 two-adds : (p q : Bool) (n : ℕ) → (q ≡ true → p ≡ false) → pick q (oneMore (pick p (oneMore n) n)) (pick p (oneMore n) n) ≡ pick (p || q) (oneMore n) n
-two-adds true true n h = absurd (never refl (h refl))
+two-adds true true n h = not-both refl (h refl)
 two-adds true false n h = refl
 two-adds false true n h = refl
 two-adds false false n h = refl
@@ -181,7 +181,7 @@ of-drop false false r = refl
 
 -- and they are as many: one that is held or starts ends, is dropped, or is held then
 balance : (h k r : Bool) → (r ≡ true → k ≡ false) → _≡_ {A = ℕ} (pick h 1 0 + pick (not h && k) 1 0) (pick (h && (not r && not k)) 1 0 + pick (h && r) 1 0 + pick k 1 0)
-balance true true true f = absurd (never refl (f refl))
+balance true true true f = not-both refl (f refl)
 balance true true false f = refl
 balance true false true f = refl
 balance true false false f = refl
@@ -264,7 +264,7 @@ module _ (rom : List ℕ) (w : World) (b line : List ℕ) where
       by : (e x : Bool) → (x ≡ true → e ≡ true) → _≡_ {A = ℕ} (pick e 1 0) (pick x 1 0 + pick (e && not x) 1 0)
       by true true g = refl
       by true false g = refl
-      by false true g = absurd (never (g refl) refl)
+      by false true g = not-both (g refl) refl
       by false false g = refl
 
   line-balance : pick (w .state .held) 1 0 + pick (startLine rom w b line) 1 0

@@ -9,8 +9,8 @@ use lib.Dec.{eqb, ltb}
 use lib.ListN.{length}
 use borrow.Author.Tests.{eq-eqb, not-true}
 use Rattle.laws.specs.Pick.{pick}
-use Rattle.laws.proofs.Pick.{pick-ind, never}
-use Rattle.laws.proofs.Bools.{both-left, both-right}
+use Rattle.laws.proofs.Pick.{pick-ind}
+use Rattle.laws.proofs.Bools.{not-both, both-left, both-right}
 use Rattle.lighting.specs.Light.{byteAt}
 use Rattle.timing.specs.Lent.{ramAllowed}
 use Rattle.controller.specs.declared.Controller.{Controller}
@@ -158,18 +158,18 @@ isEnd kinds.Resume = false
 
 kind-end : (s e d l t r : Bool) → isEnd (kindBy s e d l t r) ≡ true → e ≡ true
 unfolding isEnd
-kind-end true e d l t r h = absurd (never h refl)
+kind-end true e d l t r h = not-both h refl
 kind-end false true d l t r h = refl
-kind-end false false true l t r h = absurd (never h refl)
-kind-end false false false true t r h = absurd (never h refl)
-kind-end false false false false true r h = absurd (never h refl)
-kind-end false false false false false true h = absurd (never h refl)
-kind-end false false false false false false h = absurd (never h refl)
+kind-end false false true l t r h = not-both h refl
+kind-end false false false true t r h = not-both h refl
+kind-end false false false false true r h = not-both h refl
+kind-end false false false false false true h = not-both h refl
+kind-end false false false false false false h = not-both h refl
 
 -- a capture that stays held has not ended
 stays : (h k r : Bool) → (h ≡ true → k ≡ true) → (h && (not r && not k)) ≡ true → ⊥
 stays h k r s e =
-    never (s (both-left h (not r && not k) e)) (not-true k (both-right (not r) (not k) (both-right h (not r && not k) e)))
+    not-both (s (both-left h (not r && not k) e)) (not-true k (both-right (not r) (not k) (both-right h (not r && not k) e)))
 
 read-held : (c : Controller) (rom ram : List ℕ) (a : ℕ) → c .held ≡ true → readMeans c rom ram a .state .held ≡ true
 read-held c rom ram a h = by-number (lowest (readRows c rom ram a)) refl
@@ -217,7 +217,7 @@ tick-allowed c ram store n h = by-number (lowest (tickRows c ram store)) refl
 frame-end : (rom line : List ℕ) (w : World) (f : Frame) → (w .state .held && (not (asked (w .state) f .reset) && not (frameStep rom line w f .world .state .held))) ≡ true
     → ramAllowed (length (frameStep rom line w f .world .ram)) ≡ true
 unfolding frameStep asked
-frame-end rom line w Reset h = absurd (never (both-right (w .state .held) false h) refl)
+frame-end rom line w Reset h = not-both (both-right (w .state .held) false h) refl
 frame-end rom line w (Read a) h = absurd (stays (w .state .held) _ false (read-held (w .state) rom (w .ram) a) h)
 frame-end rom line w (Write a v) h = absurd (stays (w .state .held) _ false (write-held (w .state) (w .ram) (w .store) (w .image) a v) h)
 frame-end rom line w (Tick n) h = tick-allowed (w .state) (w .ram) (w .store) n h
@@ -296,9 +296,9 @@ quiet-entered b image ram regs out f at number malformed isRow kinds.Nothing e =
   end = sym (add-zero at);
   few = omega arith;
 }
-quiet-entered b image ram regs out f at number malformed isRow kinds.Start e = absurd (never e refl)
-quiet-entered b image ram regs out f at number malformed isRow kinds.End e = absurd (never e refl)
-quiet-entered b image ram regs out f at number malformed isRow kinds.Drop e = absurd (never e refl)
-quiet-entered b image ram regs out f at number malformed isRow kinds.Land e = absurd (never e refl)
-quiet-entered b image ram regs out f at number malformed isRow kinds.Stop e = absurd (never e refl)
-quiet-entered b image ram regs out f at number malformed isRow kinds.Resume e = absurd (never e refl)
+quiet-entered b image ram regs out f at number malformed isRow kinds.Start e = not-both e refl
+quiet-entered b image ram regs out f at number malformed isRow kinds.End e = not-both e refl
+quiet-entered b image ram regs out f at number malformed isRow kinds.Drop e = not-both e refl
+quiet-entered b image ram regs out f at number malformed isRow kinds.Land e = not-both e refl
+quiet-entered b image ram regs out f at number malformed isRow kinds.Stop e = not-both e refl
+quiet-entered b image ram regs out f at number malformed isRow kinds.Resume e = not-both e refl

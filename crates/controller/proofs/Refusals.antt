@@ -11,8 +11,8 @@ use lib.ListN.{length}
 use borrow.Author.Tests.{eq-eqb, ne-eqb, leb-true}
 use Rattle.laws.specs.Pick.{pick}
 use Rattle.laws.proofs.Order.{split}
-use Rattle.laws.proofs.Pick.{pick-ind, never}
-use Rattle.laws.proofs.Bools.{either, both-left, both-right, not-fails}
+use Rattle.laws.proofs.Pick.{pick-ind}
+use Rattle.laws.proofs.Bools.{either, not-both, both-left, both-right, not-fails}
 use Rattle.lighting.specs.Taken.{settingOf}
 use Rattle.lighting.specs.Light.{litOf}
 use Rattle.tiles.specs.Picture.{pictureOf}
@@ -90,12 +90,12 @@ pub gives : (rows : List Row) → risingFrom 0 rows ≡ true → (n : ℕ) → G
 gives rows up n g = by-number (lowest rows) refl
   where
     by-number : (k : ℕ) → lowest rows ≡ k → lowest rows ≡ n
-    by-number zero e = absurd (never (g .holds) (none-holds rows e n))
+    by-number zero e = not-both (g .holds) (none-holds rows e n)
     by-number (suc k) e =
         let h = given 0 rows up k e in
         split n (suc k)
-        (λ l. absurd (never (g .holds) (h .lower n l)))
-        (λ l. split (suc k) n (λ m. absurd (never (h .holds) (g .lower (suc k) m))) (λ m. e ∙ omega arith))
+        (λ l. not-both (g .holds) (h .lower n l))
+        (λ l. split (suc k) n (λ m. not-both (h .holds) (g .lower (suc k) m)) (λ m. e ∙ omega arith))
 
 -- what a call comes to: its lowest number where one is given, with everything else as it was; else what it does
 pub record Refuses {O : Type 0} (rows : List Row) (number : O → ℕ) (refused : ℕ → O) (o done : O) : Type 0 where
@@ -178,7 +178,7 @@ picture-refuses image regs out =
 -- a state that can exist is not refused by 1
 module _ {O : Type 0} {rows : List Row} {number : O → ℕ} {refused : ℕ → O} {o done : O} (r : Refuses rows number refused o done) where
   pub not-one : rowHolds 1 rows ≡ false → number o ≡ 1 → ⊥
-  not-one f e = never (r .exact 0 .0 e .holds) f
+  not-one f e = not-both (r .exact 0 .0 e .holds) f
 
 pub picture-fits : (image : List ℕ) → lowest (pictureRows image) ≡ 0 → frameAllowed (length image) ≡ true
 unfolding pictureRows

@@ -1,6 +1,6 @@
 -- A placing in a history: what it leaves, that a held capture keeps it out, and the bus writes that it amounts to. Assumes nothing.
 use mathlib.Core.Path.{_≡_, refl, sym, ap, _∙_}
-use mathlib.Core.Bool.{Bool, true, false, not, _&&_, and-false}
+use mathlib.Core.Bool.{Bool, true, false, not, _&&_, and-true, and-false}
 use mathlib.Core.List.{List, [], _∷_, _++_}
 use Prim.Native.Nat.{ℕ, zero, suc, _+_, _-_, _/_, _%_, _<_, _≤_}
 use native.Mathlib.Nat.{zero-add, zero-mod}
@@ -11,7 +11,7 @@ use lib.Seq.{getD-set-other, ext-getD}
 use borrow.Author.Tests.{eqb-true, lt-ltb, le-ltb, le-leb, lt-leb, ltb-false}
 use Rattle.laws.specs.Pick.{pick}
 use Rattle.laws.proofs.Order.{split}
-use Rattle.laws.proofs.Bools.{not-both, not-fails}
+use Rattle.laws.proofs.Bools.{not-both}
 use Rattle.controller.specs.declared.Controller.{Controller}
 use Rattle.timing.specs.Lent.{ramAllowed, frameAllowed}
 use Rattle.controller.specs.State.{started, cantExist}
@@ -200,11 +200,6 @@ unfolding onCartridge byteWritten controlWritten
 enable-leaves w image fits c e true = write-leaves _ image 0x0000 0x0A e ∙ rw (fits .ram-fits, fits .store-fits, fits .image-fits)
 enable-leaves w image fits c e false = write-leaves _ image 0x0000 0x00 e ∙ rw (fits .ram-fits, fits .store-fits, fits .image-fits)
 
--- where no capture is held, none runs
-none-runs : (s h : Bool) → (s && not h) ≡ false → h ≡ false → s ≡ false
-none-runs false h e f = refl
-none-runs true h e f = not-both (not-fails h e) f
-
 module _ (w : World) (image file : List ℕ) where
   abbrev c : Controller
   c = w .state
@@ -224,7 +219,7 @@ module _ (w : World) (image file : List ℕ) where
       let p = place-fits c (w .ram) file (sym (place-refuses c (w .ram) file .numbered) ∙ ok) in
       let e : cantExist c ≡ false = p .exists in
       let long : 8192 ≤ length (w .ram) = ram-lent (length (w .ram)) (p .ram-fits) .least in
-      let idle : started (c .registers) ≡ false = none-runs (started (c .registers)) (c .held) (exists-parts c e .holds) (p .none-held) in
+      let idle : started (c .registers) ≡ false = simp (p .none-held, and-true) at (exists-parts c e .holds) in
       let s : c .select % 32 ≡ c .select = omega (arith, ltb-false 31 (c .select) (exists-parts c e .select)) in
       let lends : Lends w image = record { ram-fits = p .ram-fits; store-fits = store-fits; image-fits = image-fits } in
       let off : List Call = write image 0x0000 (pick (c .enabled) 0x0A 0x00) ∷ [] in

@@ -1,16 +1,15 @@
 -- What the code reads is the grammar: a text is read to its end exactly when it is a header. Assumes nothing.
-use mathlib.Core.Path.{_≡_, refl, sym, ap, subst, _∙_}
+use mathlib.Core.Path.{_≡_, refl, sym, ap, _∙_}
 use mathlib.Core.Logic.{_↔_}
 use mathlib.Core.Bool.{Bool, true, false, not, _&&_, false≢true}
 use mathlib.Core.List.{List, [], _∷_, _++_, append-assoc}
-use Prim.Native.Nat.{ℕ, zero, suc, _+_, _-_, _≤_}
+use Prim.Native.Nat.{ℕ, zero, suc, _≤_}
 use native.Mathlib.Omega.{arith}
 use lib.Dec.{eqb, leb}
 use borrow.Author.Tests.{eqb-true, eqb-false, eq-eqb, ne-eqb, leb-true, not-true}
 use Rattle.laws.specs.Pick.{pick}
-use Rattle.laws.proofs.Pick.{never}
-use Rattle.laws.proofs.Bools.{either, both-left, both-right}
-use Rattle.photos.specs.Header.{isWhite, isEnd, Comment, last, more, Among, nothing, space, comment, Gap, white, Text, end, byte, gap, one, parts, Header}
+use Rattle.laws.proofs.Bools.{either, not-both, both-left, both-right}
+use Rattle.photos.specs.Header.{isWhite, isEnd, Comment, last, more, Among, nothing, space, comment, white, Text, end, byte, gap, one, parts, Header}
 use Rattle.photos.specs.Aside.{Left, left, moved, finished, reads, isHeader}
 
 -- a part that can follow a gap: a byte that is neither white space nor #
@@ -54,7 +53,7 @@ lost (b ∷ s) [] = lost s []
 lost (b ∷ s) (c ∷ ps) = lost s (c ∷ ps)
 
 no-more : (s : List ℕ) {l : Left} (ps : List ℕ) → l ≡ left 3 ps → reads s l ≡ true → ⊥
-no-more s ps e h = never (sym (ap (reads s) e) ∙ h) (lost s ps)
+no-more s ps e h = not-both (sym (ap (reads s) e) ∙ h) (lost s ps)
 
 -- ---- what is read has the grammar
 

@@ -10,8 +10,8 @@ use lib.Dec.{eqb}
 use lib.ListN.{set}
 use Rattle.laws.specs.Iter.{iter}
 use Rattle.laws.proofs.Iter.{iter-keeps}
-use Rattle.laws.proofs.Pick.{pick-ind, never}
-use Rattle.laws.proofs.Bools.{both-left}
+use Rattle.laws.proofs.Pick.{pick-ind}
+use Rattle.laws.proofs.Bools.{not-both, both-left}
 use Rattle.laws.proofs.Packed.{listed-ext}
 use Rattle.lighting.specs.Taken.{settingOf}
 use Rattle.lighting.specs.Light.{lightFrame, byteAt, litOf}
@@ -84,7 +84,7 @@ module _ (image regs : List ℕ) where
       pick-ind (Taken regs) (running (w .state))
       (λ _.
       pick-ind (λ (c : Controller). c .held ≡ true → c .taken ≡ regs) (eqb (w .state .elapsed .0 + 1) (totalOf (w .state .taken)))
-      (λ _ h. absurd (never h refl))
+      (λ _ h. not-both h refl)
       (λ _. t))
       (λ _. t)
 

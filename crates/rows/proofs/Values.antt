@@ -11,8 +11,8 @@ use lib.ListN.{length, getD}
 use lib.Signed.{mag}
 use Rattle.laws.specs.Lists.{listed}
 use Rattle.laws.proofs.Packed.{listed-length, listed-at, listed-ext}
-use Rattle.laws.proofs.Bools.{either, both-left, both-right}
-use Rattle.laws.proofs.Pick.{pick-ind, never}
+use Rattle.laws.proofs.Bools.{either, not-both, both-left, both-right}
+use Rattle.laws.proofs.Pick.{pick-ind}
 use Rattle.laws.proofs.Signed.{sub-ind}
 use Rattle.lighting.specs.declared.Setting.{Setting}
 use Rattle.filters.specs.Edge.{held, nine, edgeOf}
@@ -146,4 +146,4 @@ module _ (lit : ℕ → ℕ → ℕ) (set : Setting) (row : ℕ) {p : List ℕ} 
 
   -- nothing, where the row below is not asked for
   pub carried-none : length p ≡ 128 → asksBelow set ≡ false → Carried lit set row p
-  carried-none e off = record { whole = e; below = λ a. absurd (never a off) }
+  carried-none e off = record { whole = e; below = λ a. not-both a off }

@@ -10,8 +10,8 @@ use lib.Seq.{take-take, take-length, length-take-le}
 use borrow.Author.Tests.{eqb-true}
 use Rattle.laws.specs.Pick.{pick}
 use Rattle.laws.proofs.Iter.{iter-keeps}
-use Rattle.laws.proofs.Bools.{either}
-use Rattle.laws.proofs.Pick.{pick-ind, never}
+use Rattle.laws.proofs.Bools.{either, not-both}
+use Rattle.laws.proofs.Pick.{pick-ind}
 use Rattle.lines.specs.Line.{hexPart}
 use Rattle.recording.specs.Record.{ended}
 use Rattle.lines.proofs.Frames.{bad}
@@ -103,7 +103,7 @@ good-all (also line t g) = simp t (ap (λ r. line ∷ r) (good-all g))
 -- an accepted line is all digits
 digits : (line : List ℕ) → accepted line ≡ true → hexPart line 0 (length line) ≡ true
 unfolding accepted
-digits line t = either (hexPart line 0 (length line)) (λ h. h) (λ h. absurd (never t (ap isFrame (bad line h))))
+digits line t = either (hexPart line 0 (length line)) (λ h. h) (λ h. not-both t (ap isFrame (bad line h)))
 
 -- the text made of accepted lines has exactly these lines
 good-lines : {lines : List (List ℕ)} → Good lines → linesOf (textOf lines) ≡ lines

@@ -10,7 +10,8 @@ use lib.ListN.{length}
 use borrow.Author.Tests.{lt-ltb, le-ltb, ltb-true, ltb-false}
 use Rattle.laws.specs.Pick.{pick}
 use Rattle.laws.proofs.Order.{split}
-use Rattle.laws.proofs.Pick.{never}
+use Rattle.laws.proofs.Bools.{not-both}
+use Rattle.laws.proofs.Pick.{pick-one}
 use Rattle.controller.specs.Table.{Row, noRoom, before, lowest, judged}
 use Rattle.controller.proofs.Only.{only-number, some-number}
 use Rattle.controller.proofs.Refusals.{Refuses, refuses, rowHolds, risingFrom, first-fails}
@@ -31,10 +32,6 @@ one-of : (a b : Bool) → _≡_ {A = ℕ} (pick a 7 (pick b 7 0)) 7 → (a ≡ t
 one-of true b e = inl refl
 one-of false true e = inr refl
 one-of false false e = absurd (omega arith)
-
-either-one : (a : Bool) → _≡_ {A = ℕ} (pick a 7 7) 7
-either-one true = refl
-either-one false = refl
 
 module _ (script text report : List ℕ) where
   long-rows : 32768 < length script → lowest (salvageRows script text report) ≡ 12
@@ -76,7 +73,7 @@ module _ (script text report : List ℕ) where
   pub twelve-exactly : (salvageMeans script text report .number ≡ 12) ↔ (32768 < length script)
   unfolding roomRows rowHolds
   twelve-exactly = (
-    λ e. split 32768 (length script) (λ h. h) (λ h. absurd (never (salvage-short h .exact 11 .0 e .holds) refl)),
+    λ e. split 32768 (length script) (λ h. h) (λ h. not-both (salvage-short h .exact 11 .0 e .holds) refl),
     λ h. ap inSalvaging (salvage-long h),
   )
 
@@ -87,7 +84,7 @@ module _ (script text report : List ℕ) where
     λ e. split 32768 (length script)
         (λ h. absurd (omega (arith, e, ap inSalvaging (salvage-long h))))
         (λ h. (h, ⊎-elim (λ t. inl (ltb-true (length text) (length (cleaned script)) t)) (λ r. inr (ltb-true (length report) (length (linesOf script)) r)) (one-of _ _ (sym (salvage-short h .numbered) ∙ e)))),
-    λ g. salvage-short (g .0) .numbered ∙ ⊎-elim (λ t. simp (lt-ltb (length text) (length (cleaned script)) t)) (λ r. simp (lt-ltb (length report) (length (linesOf script)) r) (either-one (ltb (length text) (length (cleaned script))))) (g .1),
+    λ g. salvage-short (g .0) .numbered ∙ ⊎-elim (λ t. simp (lt-ltb (length text) (length (cleaned script)) t)) (λ r. simp (lt-ltb (length report) (length (linesOf script)) r) (pick-one (ltb (length text) (length (cleaned script))) 7)) (g .1),
   )
 
 -- one answer, and one list of bytes for each buffer

@@ -11,8 +11,7 @@ use lib.Seq.{take-add, take-at, drop-at, take-take, take-length, length-take-le}
 use borrow.Author.Tests.{eq-eqb, ne-eqb, eqb-true}
 use Rattle.laws.specs.Iter.{iter}
 use Rattle.laws.proofs.Iter.{iter-add, iter-cons, iter-fixed}
-use Rattle.laws.proofs.Bools.{either, both-left, both-right}
-use Rattle.laws.proofs.Pick.{never}
+use Rattle.laws.proofs.Bools.{either, not-both, both-left, both-right}
 use Rattle.salvaging.specs.Kept.{acceptedOf, startsReset, sameBy, sameLine, sameLines, earlier, later, doubled, halved, unrepeated, salvaged}
 use Rattle.salvaging.proofs.Walks.{next}
 
@@ -197,7 +196,7 @@ more-turns n lines h =
 -- of lines with a repetition, what is kept is what is kept of one half
 pub again : (lines : List (List ℕ)) → doubled lines ≡ true → unrepeated lines ≡ unrepeated (earlier lines)
 unfolding unrepeated
-again [] t = absurd (never t empty)
+again [] t = not-both t empty
 again (line ∷ lines) t =
     iter-cons halved (length lines) (line ∷ lines)
     ∙ ap (iter halved (length lines)) (halves-kept (line ∷ lines) t)
@@ -206,7 +205,7 @@ again (line ∷ lines) t =
 -- ---- the first n of some lines
 
 pub some-doubled : (n : ℕ) (lines : List (List ℕ)) → doubled (take n lines) ≡ true → 0 < n
-some-doubled zero lines t = absurd (never t empty)
+some-doubled zero lines t = not-both t empty
 some-doubled (suc n) lines t = omega arith
 
 pub first-half : (n : ℕ) (lines : List (List ℕ)) → n ≤ length lines → earlier (take n lines) ≡ take (n / 2) lines

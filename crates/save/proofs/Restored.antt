@@ -1,17 +1,16 @@
 -- Laws of reading a save: what the tests of a file tell, when a reading is refused, and what is so where it is not. Assumes nothing.
-use mathlib.Core.Path.{_≡_, refl, sym, ap, _∙_}
-use mathlib.Core.Bool.{Bool, true, false, not, _&&_}
+use mathlib.Core.Path.{_≡_, refl, ap, _∙_}
+use mathlib.Core.Bool.{true, false, not, _&&_}
 use mathlib.Core.List.{List, _++_}
-use Prim.Native.Nat.{ℕ, _+_, _-_, _*_, _<_, _≤_}
+use Prim.Native.Nat.{ℕ, _+_, _-_, _<_, _≤_}
 use native.Mathlib.Omega.{arith}
 use lib.Count.{ones, onesIn}
 use lib.Dec.{eqb}
-use lib.ListN.{length, getD, take, drop, length-drop, List·getD-eq-default}
+use lib.ListN.{length, take, drop, length-drop, List·getD-eq-default}
 use lib.Seq.{length-take-le}
 use borrow.Author.Tests.{eqb-true}
 use Rattle.laws.proofs.Bools.{both-left, both-right, not-fails}
-use Rattle.laws.proofs.Pick.{never}
-use Rattle.timing.specs.Lent.{banksAllowed, ramAllowed, frameAllowed}
+use Rattle.timing.specs.Lent.{banksAllowed, ramAllowed}
 use Rattle.timing.proofs.Lent.{ram-lent}
 use Rattle.controller.specs.declared.WriteAnswer.{WriteAnswer}
 use Rattle.controller.specs.State.{resetState}
@@ -19,9 +18,9 @@ use Rattle.controller.specs.Outcome.{outcome, writeNumber}
 use Rattle.controller.specs.Table.{lowest}
 use Rattle.controller.proofs.Only.{only-write}
 use Rattle.controller.proofs.Refusals.{Refuses, refuses, risingFrom, first-fails}
-use Rattle.save.specs.Save.{saveLength, isState}
+use Rattle.save.specs.Save.{isState}
 use Rattle.save.proofs.Put.{put-all}
-use Rattle.save.specs.Restore.{ramLengthIn, stateIn, ramIn, storeIn, bodyLengthIn, isSized, hasMagic, isWhole, isSave, restoreRows, Restored, restored, restoreMeans}
+use Rattle.save.specs.Restore.{ramLengthIn, stateIn, ramIn, storeIn, isSized, hasMagic, isWhole, isSave, restoreRows, Restored, restored, restoreMeans}
 
 -- ---- what the tests tell
 
@@ -98,11 +97,6 @@ pub record RestoreFits (file s ram store : List ℕ) : Type 0 where
   pub store-fits : length store ≡ 16384
   pub file-fits : isSave file ≡ true
 
-same-size : (b e : Bool) → (b && not e) ≡ false → b ≡ true → e ≡ true
-same-size true true h t = refl
-same-size true false h t = absurd (never refl h)
-same-size false e h t = absurd (never t refl)
-
 pub restore-fits : (file s ram store : List ℕ) → lowest (restoreRows file s ram store) ≡ 0 → RestoreFits file s ram store
 unfolding restoreRows
 restore-fits file s ram store e =
@@ -111,10 +105,11 @@ restore-fits file s ram store e =
     let o = first-fails _ _ (m .1) in
     let f = first-fails _ _ (o .1) in
     let g = first-fails _ _ (f .1) in
-    let is = not-fails _ (g .0) in
+    let is : isSave file ≡ true = not-fails _ (g .0) in
+    let other : (isSave file && not (eqb (length ram) (ramLengthIn file))) ≡ false = o .0 in
     record {
       state-fits = eqb-true _ _ (not-fails _ (t .0));
-      ram-fits = eqb-true _ _ (same-size (isSave file) _ (o .0) is);
+      ram-fits = eqb-true _ _ (not-fails _ (rw is at other));
       store-fits = eqb-true _ _ (not-fails _ (f .0));
       file-fits = is;
     }

@@ -10,8 +10,7 @@ use lib.Dec.{ltb, leb}
 use lib.ListN.{length, getD, take, drop, replicate, length-append, length-take, length-drop, drop-of-length-le}
 use lib.Seq.{drop-cons, take-all, take-suc, take-append-le, take-append-add, getD-drop, length-take-le}
 use borrow.Author.Tests.{eq-eqb, ne-eqb, lt-ltb, le-ltb, le-leb, ltb-true, leb-true}
-use Rattle.laws.proofs.Bools.{both-left, both-right}
-use Rattle.laws.proofs.Pick.{never}
+use Rattle.laws.proofs.Bools.{not-both, both-left, both-right}
 use Rattle.laws.proofs.Order.{split}
 use Rattle.script.specs.declared.text.Reader.{Reader}
 use Rattle.lines.specs.Hex.{placed}
@@ -149,7 +148,7 @@ module _ (rom : List ℕ) (start : Reading) (out₀ piece : List ℕ) (w : World
         split i (length piece)
         (λ l. split (length out) (at + 11)
         (λ m. going-stops l (found l) m)
-        (λ m. absurd (never (simp (lt-ltb i (length piece) l, le-leb 11 (length out - at) (omega arith))) (sym e ∙ f))))
+        (λ m. not-both (simp (lt-ltb i (length piece) l, le-leb 11 (length out - at) (omega arith))) (sym e ∙ f)))
         (λ l. going-ends l)
 
   -- bytes none of which is LF: the first 261 of the line are held

@@ -1,16 +1,16 @@
 -- A text that is read in pieces, cut anywhere, prints what the whole text prints. Assumes nothing.
 use mathlib.Core.Path.{_≡_, refl, sym, ap, _∙_}
-use mathlib.Core.Bool.{Bool, true, false}
+use mathlib.Core.Bool.{true, false}
 use mathlib.Core.List.{List, [], _∷_, _++_, append-assoc, append-nil}
 use Prim.Native.Nat.{ℕ, suc, _+_, _-_, _<_, _≤_, min}
 use native.Mathlib.Nat.{add-zero, add-assoc}
-use native.Mathlib.Numerals.{add-one}
 use native.Mathlib.Omega.{arith}
-use lib.Dec.{eqb, ltb}
+use lib.Dec.{eqb}
 use lib.ListN.{length, take, replicate, length-take}
-use lib.Seq.{take-nil, take-all, take-at, take-append-le, length-take-le}
+use lib.Seq.{take-nil, take-all, take-at, length-take-le}
 use borrow.Author.Tests.{eq-eqb, ne-eqb, le-ltb}
 use Rattle.laws.specs.Pick.{pick}
+use Rattle.laws.proofs.Bools.{either}
 use Rattle.laws.proofs.Order.{split}
 use Rattle.controller.specs.declared.Refusal.the-variants as refusals
 use Rattle.controller.specs.Outcome.{numberOf}
@@ -24,10 +24,6 @@ use Rattle.script.specs.Pieces.{Reading, reading, lineEnded, lineKept, b
 use Rattle.lines.proofs.Digits.{and-false}
 use Rattle.lines.proofs.Frames.{too-long}
 use Rattle.script.proofs.Feeds.{kept-more, few-kept}
-
-cases {ℓ} : {X : Type ℓ} (t : Bool) → (t ≡ true → X) → (t ≡ false → X) → X
-cases true f g = f refl
-cases false f g = g refl
 
 -- ---- bad lines
 
@@ -86,7 +82,7 @@ lines-from : (p text : List ℕ) → linesFrom p text ≡ prefixed p (linesOf te
 unfolding linesFrom linesOf prefixed
 lines-from p [] = refl
 lines-from p (b ∷ rest) =
-    cases (eqb b 0x0A)
+    either (eqb b 0x0A)
     (λ e. simp e (ap (λ ls. p ∷ ls) (lines-from [] rest ∙ prefixed-none (linesOf rest)) ∙ ap (λ l. l ∷ linesOf rest) (sym (append-nil p))))
     (λ e. simp e (lines-from (p ++ (b ∷ [])) rest ∙ prefixed-begins p b (linesOf rest)))
 
@@ -152,7 +148,7 @@ reads : (rom text : List ℕ) (m : Reading) (p : List ℕ) → Holds m p → clo
 unfolding closing readAll linesFrom
 reads rom [] m p h = ap (after (m .text)) (last-is rom m p h)
 reads rom (b ∷ rest) m p h =
-    cases (eqb b 0x0A)
+    either (eqb b 0x0A)
     (λ e.
     simp e
     (ap (λ x. closing rom (readAll rom x rest)) (byte-line rom m b e)
@@ -174,7 +170,7 @@ shifted t u m = reading (m .world) (m .line) (t ++ m .text) (u + m .used)
 shifted-byte : (rom t : List ℕ) (u : ℕ) (m : Reading) (b : ℕ) → byteRead rom (shifted t u m) b ≡ shifted t u (byteRead rom m b)
 unfolding shifted byteRead lineEnded byteKept
 shifted-byte rom t u m b =
-    cases (eqb b 0x0A)
+    either (eqb b 0x0A)
     (λ e. simp e
     (ap (λ x. reading (stepOf rom (m .world) (m .line) .world) [] x (u + m .used + 1)) (append-assoc t (m .text) (stepOf rom (m .world) (m .line) .text))
     ∙ ap (λ n. reading (stepOf rom (m .world) (m .line) .world) [] (t ++ (m .text ++ stepOf rom (m .world) (m .line) .text)) n) (add-assoc u (m .used) 1)))
@@ -193,7 +189,7 @@ closing-shifted rom t u m =
 -- no more than 261 bytes are held
 few-byte : (rom : List ℕ) (m : Reading) (b : ℕ) → length (m .line) ≤ 261 → length (byteRead rom m b .line) ≤ 261
 unfolding byteRead lineEnded byteKept
-few-byte rom m b h = cases (eqb b 0x0A) (λ e. simp e (omega arith)) (λ e. simp e (few-kept (m .line) b h))
+few-byte rom m b h = either (eqb b 0x0A) (λ e. simp e (omega arith)) (λ e. simp e (few-kept (m .line) b h))
 
 few-all : (rom : List ℕ) (m : Reading) (p : List ℕ) → length (m .line) ≤ 261 → length (readAll rom m p .line) ≤ 261
 unfolding readAll
@@ -245,7 +241,7 @@ whole rom w pieces =
 
 used-byte : (rom : List ℕ) (m : Reading) (b : ℕ) → byteRead rom m b .used ≡ m .used + 1
 unfolding byteRead lineEnded byteKept
-used-byte rom m b = cases (eqb b 0x0A) (λ e. simp e) (λ e. simp e)
+used-byte rom m b = either (eqb b 0x0A) (λ e. simp e) (λ e. simp e)
 
 fed-on : (rom : List ℕ) (size : ℕ) (m : Reading) (b : ℕ) (rest : List ℕ) → noRoom size m b ≡ false → fed rom size m (b ∷ rest) ≡ fed rom size (byteRead rom m b) rest
 unfolding fed
@@ -259,7 +255,7 @@ used-grows : (rom : List ℕ) (size : ℕ) (m : Reading) (p : List ℕ) → m .u
 unfolding fed
 used-grows rom size m [] = omega arith
 used-grows rom size m (b ∷ rest) =
-    cases (noRoom size m b)
+    either (noRoom size m b)
     (λ e. rw (fed-off rom size m b rest e) (omega arith))
     (λ e. rw (fed-on rom size m b rest e) (omega (arith, used-grows rom size (byteRead rom m b) rest, used-byte rom m b)))
 
@@ -268,7 +264,7 @@ pub fed-is : (rom : List ℕ) (size : ℕ) (m : Reading) (p : List ℕ) → fed 
 unfolding fed readAll
 fed-is rom size m [] = ap (readAll rom m) (sym (take-nil {A = ℕ} (m .used - m .used)))
 fed-is rom size m (b ∷ rest) =
-    cases (noRoom size m b)
+    either (noRoom size m b)
     (λ e.
     let f = fed-off rom size m b rest e in
     let n : fed rom size m (b ∷ rest) .used - m .used ≡ 0 = omega (arith, ap (λ x. x .used) f) in

@@ -8,8 +8,8 @@ use lib.Dec.{eqb, ltb, lit<}
 use lib.ListN.{length}
 use borrow.Author.Tests.{ltb-true, eq-eqb, ne-eqb}
 use Rattle.laws.specs.Pick.{pick}
-use Rattle.laws.proofs.Bools.{both-left, both-right}
-use Rattle.laws.proofs.Pick.{pick-ind, never}
+use Rattle.laws.proofs.Bools.{not-both, both-left, both-right}
+use Rattle.laws.proofs.Pick.{pick-ind}
 use Rattle.timing.specs.Lent.{frameAllowed}
 use Rattle.controller.specs.Outcome.{Outcome, numberOf}
 use Rattle.controller.specs.Table.{Row, lowest}
@@ -65,7 +65,7 @@ frame-lower rom line w (Read a) t = call-lower (read-refuses (w .state) rom (w .
 frame-lower rom line w (Write a v) t = call-lower (write-refuses (w .state) (w .ram) (w .store) (w .image) a v) refl 0
 frame-lower rom line w (Tick n) t = call-lower (tick-refuses (w .state) (w .ram) (w .store) n) refl 8
 frame-lower rom line w (RowFrame y) t = pick-ind (λ s. numberSaid s < 6) (frameAllowed (length (w .image))) (λ h. lower 0 0 0 (lit< tt)) (λ h. lower 4 0 0 (lit< tt))
-frame-lower rom line w Malformed t = absurd (never refl t)
+frame-lower rom line w Malformed t = not-both refl t
 
 -- a write answers its refusal number
 pub write-said : (rom line : List ℕ) (w : World) (a v : ℕ) → numberSaid (frameStep rom line w (Write a v) .text) ≡ writeMeans (w .state) (w .ram) (w .store) (w .image) a v .number

@@ -1,11 +1,12 @@
 -- Every starred figure agrees: one test, computed over the whole table. Assumes nothing.
-use mathlib.Core.Bool.{Bool, true, false}
+use mathlib.Core.Bool.{Bool, true, false, _&&_}
 use mathlib.Core.Path.{_≡_, ap}
 use mathlib.Core.List.{List, [], _∷_}
 use Prim.Native.Nat.{ℕ, _+_, _*_, _≤_}
 use native.Mathlib.Omega.{arith}
 use lib.IntN.{ℤ, pos, negsuc}
 use lib.Dec.{T, eqb, eqb→eq}
+use mir.Facts.{and-yes}
 use lib.ListN.{getD}
 use Rattle.laws.specs.Pick.{pick}
 use Rattle.laws.specs.Bits.{putBit}
@@ -38,18 +39,14 @@ same-eq (negsuc a) (negsuc b) t = ap negsuc (eqb→eq a b t)
 agrees : List Figure → Bool
 unfolding same
 agrees [] = true
-agrees (row ∷ rows) = pick (same (row .given) (row .paper)) (agrees rows) false
-
--- a pair of facts from a pair of tests
-both : {A B : Type 0} (a b : Bool) → (T a → A) → (T b → B) → T (pick a b false) → A × B
-both true b f g t = (f tt, g t)
-both false b f g t = absurd t
+agrees (row ∷ rows) = same (row .given) (row .paper) && agrees rows
 
 agree : (rows : List Figure) → T (agrees rows) → Agree rows
 unfolding agrees Agree
 agree [] t = tt
 agree (row ∷ rows) t =
-    both (same (row .given) (row .paper)) (agrees rows) (same-eq (row .given) (row .paper)) (agree rows) t
+    let p = and-yes (same (row .given) (row .paper)) (agrees rows) t in
+    (same-eq (row .given) (row .paper) (p .0), agree rows (p .1))
 
 -- The starred figures: what the definitions give is what the paper says, row by row.
 pub figures : Agree table

@@ -1,15 +1,14 @@
 -- No second outcome fits: how many lines are played, and what they leave, is known from what is promised. Assumes nothing.
 use mathlib.Core.Path.{_≡_, sym, ap, _∙_}
-use mathlib.Core.Bool.{true, false}
+use mathlib.Core.Bool.{true}
 use mathlib.Core.List.{List}
 use Prim.Native.Nat.{ℕ, zero, suc, _<_}
 use native.Mathlib.Omega.{arith}
 use lib.Dec.{eqb}
 use lib.ListN.{length, getD, take}
 use borrow.Author.Tests.{eqb-true, eqb-false}
-use Rattle.laws.proofs.Bools.{either}
+use Rattle.laws.proofs.Bools.{either, not-both}
 use Rattle.laws.proofs.Order.{split}
-use Rattle.laws.proofs.Pick.{never}
 use Rattle.tiles.specs.Tiles.{Bytes}
 use Rattle.layout.specs.Layout.{isRecord, decoded, encoded}
 use Rattle.layout.proofs.Inverse.{encode-decode}
@@ -32,7 +31,7 @@ module _ (rom : List ℕ) (w : World) (state book piece out : List ℕ) where
   by-case f g =
       either (isRecord state)
       (λ rec. either (eqb (length book) 13) (λ t. f rec (eqb-true (length book) 13 t)) (λ o. g (λ _ e. eqb-false (length book) 13 o e)))
-      (λ none. g (λ r _. never r none))
+      (λ none. g (λ r _. not-both r none))
 
   module _ {s₁ r₁ f₁ i₁ b₁ o₁ s₂ r₂ f₂ i₂ b₂ o₂ : List ℕ} {u₁ n₁ u₂ n₂ : ℕ}
       (x : Sweeps rom w book piece out (world (decoded s₁) r₁ f₁ i₁) b₁ o₁ u₁ n₁) (p : Settled state book piece out s₁ u₁ n₁)

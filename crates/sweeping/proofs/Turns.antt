@@ -1,18 +1,17 @@
 -- What holds while whole lines are played, line by line. Assumes nothing.
 use mathlib.Core.Path.{_≡_, refl, sym, ap, subst, _∙_}
-use mathlib.Core.Bool.{Bool, true, false, not, _&&_}
+use mathlib.Core.Bool.{Bool, true, false, _&&_}
 use mathlib.Core.List.{List, [], _∷_, _++_, append-assoc, append-nil}
 use Prim.Native.Nat.{ℕ, zero, suc, _+_, _-_, _<_, _≤_}
 use native.Mathlib.Numerals.{add-one}
 use native.Mathlib.Nat.{zero-add}
 use native.Mathlib.Omega.{arith}
-use lib.Dec.{eqb, ltb, leb}
+use lib.Dec.{ltb, leb}
 use lib.ListN.{length, getD, take, drop, take-append-drop, length-append, length-drop}
 use lib.Seq.{drop-cons, take-suc, getD-drop, length-take-le, take-append-add}
 use borrow.Author.Tests.{eq-eqb, ne-eqb, eqb-true, lt-ltb, le-leb, ltb-true, leb-true}
-use Rattle.laws.proofs.Bools.{both-left, both-right}
+use Rattle.laws.proofs.Bools.{not-both, both-left, both-right}
 use Rattle.laws.proofs.Order.{split}
-use Rattle.laws.proofs.Pick.{never}
 use Rattle.lines.specs.Hex.{placed}
 use Rattle.lines.proofs.Placed.{placed-none, placed-next}
 use Rattle.session.specs.Session.{World}
@@ -36,7 +35,7 @@ pub stopped : (piece out : List ℕ) (i end at : ℕ) → Ends piece i end → (
 stopped piece out i end at e r q f k a l lf =
     split (length out) (at + 256) (λ full. full)
     (λ room. split k end (λ before. absurd (e .none k a before lf))
-    (λ after. absurd (never (simp (lt-ltb end (length piece) (omega arith), le-leb 256 (length out - at) (omega arith))) (sym q ∙ f))))
+    (λ after. not-both (simp (lt-ltb end (length piece) (omega arith), le-leb 256 (length out - at) (omega arith))) (sym q ∙ f)))
 
 -- what lines say after lines
 pub text-append : (rom : List ℕ) (xs : List (List ℕ)) (w : World) (b : List ℕ) (ys : List (List ℕ))

@@ -2,7 +2,7 @@
 use mathlib.Core.Path.{refl, sym, _∙_}
 use native.Mathlib.Omega.{arith}
 use borrow.Author.Needs.{needs}
-use Rattle.laws.proofs.Pick.{never}
+use Rattle.laws.proofs.Bools.{not-both}
 use Rattle.sweeping.proofs.Turns.{sweeps-none}
 use Rattle.sweeping.proofs.lines_audited.Statement.{statement}
 use Rattle.sweeping.proofs.lines_audited.Tie as tie
@@ -23,7 +23,7 @@ returns-2 c =
 
 returns-3 : tie.Need-returns-3
 returns-3 c =
-    (sweeps-none _ _ _ _ _, record { played = λ y _. absurd (never y (sym (c .before .is-record .ensures) ∙ c .if2 .left)); left = λ _. (refl, refl) })
+    (sweeps-none _ _ _ _ _, record { played = λ y _. not-both y (sym (c .before .is-record .ensures) ∙ c .if2 .left); left = λ _. (refl, refl) })
 
 pub lines-audited-spec : {M : Type 1} → statement M
 lines-audited-spec =
