@@ -6,11 +6,12 @@ use Prim.Native.Nat.{ℕ, zero, suc, _+_, _-_, _*_, _<_, _≤_}
 use native.Mathlib.Omega.{arith}
 use lib.ListN.{length, getD}
 use borrow.Author.Tests.{le-leb, lt-ltb, ne-eqb}
+use Rattle.laws.proofs.Bools.{both-hold}
 use Rattle.laws.proofs.Order.{split}
 use Rattle.lines.specs.declared.line.Frame.the-variants.{Malformed}
 use Rattle.lines.specs.Hex.{digitByte}
 use Rattle.lines.specs.Line.{isHex, worth, hexPart, numberAt, spelled, frameOf}
-use Rattle.lines.proofs.Digits.{both, hex-more, hex-fails, number-more, number-zero, digit-within, digit-back}
+use Rattle.lines.proofs.Digits.{hex-more, hex-fails, number-more, number-zero, digit-within, digit-back}
 use Rattle.lines.proofs.Frames.{wrong, bad}
 
 -- a byte 30h to 39h is a digit, worth as much as it is over 30h
@@ -42,7 +43,7 @@ module _ (line : List ℕ) where
   kind-is k l e₀ e₁ =
       let a = numeral (getD line 0 0) 0 e₀ (omega arith) in
       let b = numeral (getD line 1 0) k e₁ l in
-      (hex-more line 0 1 ∙ both _ _ (hex-more line 0 0 ∙ both _ _ refl (a .0)) (b .0), omega (arith, two, a .1, b .1))
+      (hex-more line 0 1 ∙ both-hold (hex-more line 0 0 ∙ both-hold refl (a .0)) (b .0), omega (arith, two, a .1, b .1))
 
   -- a line of another kind
   no-kind : 2 ≤ length line → (hexPart line 0 2 ≡ true → 4 < numberAt line 0 2) → frameOf line ≡ Malformed

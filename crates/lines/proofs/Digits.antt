@@ -1,6 +1,6 @@
 -- Digits and the numbers that they spell: laws of `digitOf`, `hexPart`, `numberAt` and `numberOf`. Assumes nothing.
 use mathlib.Core.Path.{_≡_, refl, sym, ap, _∙_}
-use mathlib.Core.Bool.{Bool, true, false, _&&_}
+use mathlib.Core.Bool.{Bool, true, false, _&&_, and-true, and-false, and-assoc, false≢true}
 use mathlib.Core.List.{List}
 use Prim.Native.Nat.{ℕ, zero, suc, _+_, _-_, _*_, _/_, _%_, _^_, _<_, _≤_}
 use native.Mathlib.Nat.{pow-suc, add-zero, add-suc, add-assoc, zero-add, pow-le-pow-right}
@@ -10,6 +10,7 @@ use lib.ListN.{getD}
 use lib.Dec.{leb, lit<}
 use borrow.Author.Tests.{le-leb, lt-leb, leb-true, lt-ltb, le-ltb}
 use Rattle.laws.specs.Pick.{pick}
+use Rattle.laws.proofs.Bools.{either, both-left, both-right}
 use Rattle.laws.proofs.Order.{split}
 use Rattle.lines.specs.declared.line.Digit.{Digit}
 use Rattle.lines.specs.declared.line.Digit.the-variants as digits
@@ -17,33 +18,6 @@ use Rattle.lines.specs.declared.line.Number.{Number}
 use Rattle.lines.specs.declared.line.Number.the-variants as numbers
 use Rattle.lines.specs.Hex.{digitByte}
 use Rattle.lines.specs.Line.{isHex, worth, digitOf, hexPart, numberAt, numberOf}
-
--- a conjunction that holds, and its halves
-pub both : (a b : Bool) → a ≡ true → b ≡ true → (a && b) ≡ true
-both a b p q = simp (p, q)
-
-pub clash : _≡_ {A = Bool} false true → ⊥
-clash e = let n : _≡_ {A = ℕ} 0 1 = cc in omega arith
-
-pub first-half : (a b : Bool) → (a && b) ≡ true → a ≡ true
-first-half true b h = refl
-first-half false b h = h
-
-pub second-half : (a b : Bool) → (a && b) ≡ true → b ≡ true
-second-half true b h = h
-second-half false b h = absurd (clash h)
-
-pub and-true : (a : Bool) → (a && true) ≡ a
-and-true true = refl
-and-true false = refl
-
-pub and-false : (a : Bool) → (a && false) ≡ false
-and-false true = refl
-and-false false = refl
-
-and-assoc : (a b d : Bool) → ((a && b) && d) ≡ (a && (b && d))
-and-assoc true b d = refl
-and-assoc false b d = refl
 
 -- an answer that is a value was picked by a test that held
 pub digit-is : (t : Bool) (v d : ℕ) → pick t (digits.Value v) digits.NotHex ≡ digits.Value d → (t ≡ true) × (d ≡ v)
@@ -70,7 +44,7 @@ above b h = simp (le-leb 0x30 b (omega arith), lt-leb b 0x39 h)
 pub worth-small : (b : ℕ) → isHex b ≡ true → worth b < 16
 worth-small b h =
     split 0x39 b
-    (λ l. let m : b ≤ 0x46 = leb-true b 0x46 (second-half (leb 0x41 b) (leb b 0x46) (sym (above b l) ∙ h)) in simp (lt-leb b 0x39 l) (omega arith))
+    (λ l. let m : b ≤ 0x46 = leb-true b 0x46 (both-right (leb 0x41 b) (leb b 0x46) (sym (above b l) ∙ h)) in simp (lt-leb b 0x39 l) (omega arith))
     (λ l. simp (le-leb b 0x39 l) (omega arith))
 
 -- a digit is the byte of what it is worth
@@ -80,12 +54,12 @@ digit-back b h =
     split 0x39 b
     (λ l.
     let m = sym (above b l) ∙ h in
-    let low : 0x41 ≤ b = leb-true 0x41 b (first-half (leb 0x41 b) (leb b 0x46) m) in
+    let low : 0x41 ≤ b = leb-true 0x41 b (both-left (leb 0x41 b) (leb b 0x46) m) in
     let w : 10 ≤ b - 0x41 + 10 = omega arith in
     simp (lt-leb b 0x39 l, le-ltb (b - 0x41 + 10) 10 w) (omega arith))
     (λ l.
     split b 0x30
-    (λ m. absurd (clash (simp (lt-leb 0x30 b m, lt-leb 0x41 b (omega arith)) at h)))
+    (λ m. absurd (false≢true (simp (lt-leb 0x30 b m, lt-leb 0x41 b (omega arith)) at h)))
     (λ m. let w : b - 0x30 < 10 = omega arith in simp (le-leb b 0x39 l, lt-ltb (b - 0x30) 10 w) (omega arith)))
 
 -- a byte outside 30h to 46h, and one in 3Ah to 40h, is no digit; any other is one
@@ -128,8 +102,8 @@ unfolding hexPart numberAt
 number-small line at zero h = lit< tt
 number-small line at (suc n) h =
     let d = getD line (at + n) 0 in
-    let s : numberAt line at n < 16 ^ n = number-small line at n (first-half (hexPart line at n) (isHex d) h) in
-    let w : worth d < 16 = worth-small d (second-half (hexPart line at n) (isHex d) h) in
+    let s : numberAt line at n < 16 ^ n = number-small line at n (both-left (hexPart line at n) (isHex d) h) in
+    let w : worth d < 16 = worth-small d (both-right (hexPart line at n) (isHex d) h) in
     rw pow-suc (omega arith)
 
 -- a part that begins with bytes that are no digits is none
@@ -199,17 +173,13 @@ room v i h l = omega (arith, pow-le-pow-right {n = 16} (lit< tt) {i = i} {j = 7}
 pub hex-within : (line : List ℕ) (n k m : ℕ) → hexPart line 0 n ≡ true → k + m ≤ n → hexPart line k m ≡ true
 hex-within line n k m h l =
     let e : n ≡ k + (m + (n - k - m)) = omega arith in
-    let back = second-half (hexPart line 0 k) (hexPart line (0 + k) (m + (n - k - m))) (sym (hex-parts line 0 k (m + (n - k - m))) ∙ ap (hexPart line 0) (sym e) ∙ h) in
+    let back = both-right (hexPart line 0 k) (hexPart line (0 + k) (m + (n - k - m))) (sym (hex-parts line 0 k (m + (n - k - m))) ∙ ap (hexPart line 0) (sym e) ∙ h) in
     let from : hexPart line k (m + (n - k - m)) ≡ true = rw zero-add at back in
-    first-half (hexPart line k m) (hexPart line (k + m) (n - k - m)) (sym (hex-parts line k m (n - k - m)) ∙ from)
+    both-left (hexPart line k m) (hexPart line (k + m) (n - k - m)) (sym (hex-parts line k m (n - k - m)) ∙ from)
 
 -- a part's digits, one by one
-is-true : (t : Bool) → (t ≡ false → ⊥) → t ≡ true
-is-true true f = refl
-is-true false f = absurd (f refl)
-
 pub digit-within : (line : List ℕ) (at n k : ℕ) → hexPart line at n ≡ true → k < n → isHex (getD line (at + k) 0) ≡ true
-digit-within line at n k h l = is-true (isHex (getD line (at + k) 0)) (λ f. clash (sym (hex-stops line at k n l f) ∙ h))
+digit-within line at n k h l = either (isHex (getD line (at + k) 0)) (λ t. t) (λ f. absurd (false≢true (sym (hex-stops line at k n l f) ∙ h)))
 
 -- what is left after the tests of a byte tells whether it is a digit
 pub gap-tells : (b past gap : ℕ) → (past + 48) % 256 ≡ b → (gap + 58) % 256 ≡ b → past ≤ 22 → gap < 256 → leb 7 gap ≡ isHex b
@@ -224,12 +194,12 @@ hex-worth b h =
     split 0x39 b
     (λ l.
     let m = sym (above b l) ∙ h in
-    let low : 0x41 ≤ b = leb-true 0x41 b (first-half (leb 0x41 b) (leb b 0x46) m) in
-    let top : b ≤ 0x46 = leb-true b 0x46 (second-half (leb 0x41 b) (leb b 0x46) m) in
+    let low : 0x41 ≤ b = leb-true 0x41 b (both-left (leb 0x41 b) (leb b 0x46) m) in
+    let top : b ≤ 0x46 = leb-true b 0x46 (both-right (leb 0x41 b) (leb b 0x46) m) in
     simp (lt-leb b 0x39 l) (omega arith))
     (λ l.
     split b 0x30
-    (λ m. absurd (clash (simp (lt-leb 0x30 b m, lt-leb 0x41 b (omega arith)) at h)))
+    (λ m. absurd (false≢true (simp (lt-leb 0x30 b m, lt-leb 0x41 b (omega arith)) at h)))
     (λ m. simp (le-leb b 0x39 l) (omega arith)))
 
 -- no digit spells 0
@@ -275,4 +245,4 @@ eight-number line at =
 pub eight-halves : (line : List ℕ) (at : ℕ) → hexPart line at 8 ≡ true → (hexPart line at 4 ≡ true) × (hexPart line (at + 4) 4 ≡ true)
 eight-halves line at h =
     let b = sym (hex-parts line at 4 4) ∙ h in
-    (first-half (hexPart line at 4) (hexPart line (at + 4) 4) b, second-half (hexPart line at 4) (hexPart line (at + 4) 4) b)
+    (both-left (hexPart line at 4) (hexPart line (at + 4) 4) b, both-right (hexPart line at 4) (hexPart line (at + 4) 4) b)

@@ -1,6 +1,6 @@
 -- Which lines are malformed: laws of `spelled` and `frameOf`. Assumes nothing.
 use mathlib.Core.Path.{_≡_, refl}
-use mathlib.Core.Bool.{Bool, true, false, _&&_}
+use mathlib.Core.Bool.{Bool, true, false, _&&_, and-false}
 use mathlib.Core.List.{List}
 use Prim.Native.Nat.{ℕ, _<_}
 use native.Mathlib.Omega.{arith}
@@ -8,14 +8,11 @@ use lib.Dec.{eqb, leb}
 use lib.ListN.{length}
 use borrow.Author.Tests.{ne-eqb, eqb-true, leb-true}
 use Rattle.laws.specs.Pick.{pick}
-use Rattle.lines.proofs.Digits.{and-false, first-half, second-half}
+use Rattle.laws.proofs.Bools.{both-left, both-right}
+use Rattle.laws.proofs.Pick.{pick-one}
 use Rattle.lines.specs.declared.line.Frame.{Frame}
 use Rattle.lines.specs.declared.line.Frame.the-variants.{Reset, Read, Write, Tick, Row, Malformed}
 use Rattle.lines.specs.Line.{isLine, hexPart, numberAt, spelled, frameOf}
-
-pub pick-same : {X : Type 0} (t : Bool) (x : X) → pick t x x ≡ x
-pick-same true x = refl
-pick-same false x = refl
 
 -- what was picked is not what is different
 other : (t : Bool) (a b x : Frame) → pick t a b ≡ x → (a ≡ x → ⊥) → b ≡ x
@@ -46,7 +43,7 @@ module _ (line : List ℕ) where
   -- digits that spell no frame
   pub wrong : spelled line ≡ Malformed → frameOf line ≡ Malformed
   unfolding frameOf
-  wrong e = simp (e, pick-same)
+  wrong e = simp (e, pick-one)
 
   -- Anything that is not a hex digit ends the reading with 6
   pub bad : hexPart line 0 (length line) ≡ false → frameOf line ≡ Malformed
@@ -82,8 +79,8 @@ module _ (line : List ℕ) where
       let c = other (isLine line 2 8) (Write (numberAt line 2 4) (numberAt line 6 2)) _ (Row y) b (no-write _ _ y) in
       let d = other (isLine line 3 10) (Tick (numberAt line 2 8)) _ (Row y) c (no-tick _ y) in
       let r = this (isLine line 4 260 && leb (numberAt line 2 2) 0x7F) (Row (numberAt line 2 2)) Malformed (Row y) d (no-malformed y) in
-      let is = first-half (isLine line 4 260) (leb (numberAt line 2 2) 0x7F) (r .0) in
-      let long = eqb-true (length line) 260 (second-half (eqb (numberAt line 0 2) 4) (eqb (length line) 260) is) in
-      let small = leb-true (numberAt line 2 2) 0x7F (second-half (isLine line 4 260) (leb (numberAt line 2 2) 0x7F) (r .0)) in
+      let is = both-left (isLine line 4 260) (leb (numberAt line 2 2) 0x7F) (r .0) in
+      let long = eqb-true (length line) 260 (both-right (eqb (numberAt line 0 2) 4) (eqb (length line) 260) is) in
+      let small = leb-true (numberAt line 2 2) 0x7F (both-right (isLine line 4 260) (leb (numberAt line 2 2) 0x7F) (r .0)) in
       let same : numberAt line 2 2 ≡ y = cc (r .1) in
       (long, rw long at (h .0), omega arith)

@@ -1,6 +1,6 @@
 -- A line is malformed exactly when it is of none of the five kinds. Assumes nothing.
 use mathlib.Core.Path.{_≡_, refl, sym, ap, _∙_}
-use mathlib.Core.Bool.{Bool, true, false, not, _&&_, _||_}
+use mathlib.Core.Bool.{Bool, true, false, not, _&&_, _||_, and-true, and-false, false≢true}
 use mathlib.Core.List.{List, [], _∷_}
 use Prim.Native.Nat.{ℕ, zero, suc, _+_, _-_, _*_, _<_, _≤_}
 use native.Mathlib.Omega.{arith}
@@ -8,21 +8,21 @@ use lib.Dec.{eqb, leb, lit<, lit≤}
 use lib.ListN.{length, getD}
 use borrow.Author.Tests.{eq-eqb, eqb-true, le-leb, lt-leb, lt-ltb}
 use Rattle.laws.specs.Pick.{pick}
-use Rattle.laws.proofs.Bools.{either}
+use Rattle.laws.proofs.Bools.{either, both-left, both-right, both-hold}
 use Rattle.laws.proofs.Order.{split}
 use Rattle.laws.proofs.Pick.{never}
 use Rattle.lines.specs.declared.line.Frame.the-variants.{Reset, Read, Write, Tick, Row, Malformed}
 use Rattle.lines.specs.Hex.{digitByte}
 use Rattle.lines.specs.Line.{isHex, worth, hexPart, numberAt, isLine, spelled, frameOf}
 use Rattle.lines.specs.Kinds.{allHex, ofKind, saysReset, saysRead, saysWrite, saysTick, saysRow, saidBy, isKind, isMalformed}
-use Rattle.lines.proofs.Digits.{both, clash, first-half, second-half, and-true, and-false, worth-small, digit-back, hex-parts, hex-stops}
+use Rattle.lines.proofs.Digits.{worth-small, digit-back, hex-parts, hex-stops}
 use Rattle.lines.proofs.Frames.{good, bad}
 use Rattle.lines.proofs.Spelt.{digit-worth}
 
 -- two tests that hold together are the same
 same-test : (x y : Bool) → (x ≡ true → y ≡ true) → (y ≡ true → x ≡ true) → x ≡ y
 same-test true y f g = sym (f refl)
-same-test false y f g = either y (λ t. absurd (clash (g t))) (λ e. sym e)
+same-test false y f g = either y (λ t. absurd (false≢true (g t))) (λ e. sym e)
 
 -- ---- digits
 
@@ -68,10 +68,10 @@ two-digits a b k p q h =
     let n = eqb-true (worth a * 16 + worth b) k e in
     let x : worth a ≡ 0 = omega arith in
     let y : worth b ≡ k = omega arith in
-    both _ _ (eq-eqb a 0x30 (sym (digit-back a p) ∙ ap digitByte x ∙ below 0 (lit< tt))) (eq-eqb b (0x30 + k) (sym (digit-back b q) ∙ ap digitByte y ∙ below k h)))
+    both-hold (eq-eqb a 0x30 (sym (digit-back a p) ∙ ap digitByte x ∙ below 0 (lit< tt))) (eq-eqb b (0x30 + k) (sym (digit-back b q) ∙ ap digitByte y ∙ below k h)))
     (λ e.
-    let x : worth a ≡ 0 = worth-below a 0 (lit< tt) (eqb-true a 0x30 (first-half (eqb a 0x30) (eqb b (0x30 + k)) e)) in
-    let y : worth b ≡ k = worth-below b k h (eqb-true b (0x30 + k) (second-half (eqb a 0x30) (eqb b (0x30 + k)) e)) in
+    let x : worth a ≡ 0 = worth-below a 0 (lit< tt) (eqb-true a 0x30 (both-left (eqb a 0x30) (eqb b (0x30 + k)) e)) in
+    let y : worth b ≡ k = worth-below b k h (eqb-true b (0x30 + k) (both-right (eqb a 0x30) (eqb b (0x30 + k)) e)) in
     eq-eqb (worth a * 16 + worth b) k (omega arith))
 
 -- a row is at most 7F just where its first digit is 0 to 7
@@ -96,7 +96,7 @@ number-two line at =
 
 length-of : (digit n : ℕ) (line : List ℕ) → ofKind digit n line ≡ true → length line ≡ n
 unfolding ofKind
-length-of digit n line t = eqb-true (length line) n (first-half (eqb (length line) n) _ t)
+length-of digit n line t = eqb-true (length line) n (both-left (eqb (length line) n) _ t)
 
 module _ (line : List ℕ) (h : allHex line ≡ true) where
   hex-at : (i : ℕ) → i < length line → isHex (getD line i 0) ≡ true

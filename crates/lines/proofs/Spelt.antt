@@ -8,10 +8,11 @@ use native.Mathlib.Omega.{arith}
 use lib.ListN.{length, getD}
 use lib.Seq.{getD-append-add, getD-at}
 use borrow.Author.Tests.{le-leb, lt-leb, lt-ltb, le-ltb}
+use Rattle.laws.proofs.Bools.{both-hold}
 use Rattle.laws.proofs.Order.{split}
 use Rattle.lines.specs.Line.{isHex, worth, hexPart, numberAt}
 use Rattle.lines.specs.Hex.{digitByte, hexText}
-use Rattle.lines.proofs.Digits.{Spells, both}
+use Rattle.lines.proofs.Digits.{Spells}
 use Rattle.lines.proofs.Placed.{length-hex}
 
 -- a digit's byte is a digit, and worth what it was made of
@@ -48,7 +49,7 @@ unfolding hexPart
 text-hex pre post zero v = refl
 text-hex pre post (suc n) v =
     rw (last-apart pre post n v)
-    (both _ _ (text-hex pre (digitByte (v % 16) ∷ post) n (v / 16))
+    (both-hold (text-hex pre (digitByte (v % 16) ∷ post) n (v / 16))
     (ap isHex (last-digit pre post n v) ∙ digit-hex (v % 16) (omega arith)))
 
 pub text-number : (pre post : List ℕ) (n v : ℕ) → v < 16 ^ n → numberAt (pre ++ (hexText n v ++ post)) (length pre) n ≡ v

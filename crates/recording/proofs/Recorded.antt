@@ -1,7 +1,7 @@
 -- Writing and reading are inverse to each other: every frame written is read back, and every accepted line is written back.
 -- Besides: when a line is refused, what the buffer then holds, and that no second outcome fits. Assumes nothing.
 use mathlib.Core.Path.{_≡_, refl, sym, ap, _∙_}
-use mathlib.Core.Bool.{true, false, _&&_}
+use mathlib.Core.Bool.{true, false, _&&_, false≢true}
 use mathlib.Core.List.{List, [], _∷_, _++_, append-assoc}
 use Prim.Native.Nat.{ℕ, zero, suc, _+_, _*_, _/_, _%_, _<_, _≤_}
 use native.Mathlib.Nat.{zero-add}
@@ -11,7 +11,7 @@ use lib.ListN.{length, getD, take, drop, length-append, length-drop}
 use lib.Seq.{take-suc, take-all, take-add, drop-drop, getD-drop}
 use borrow.Author.Tests.{eqb-true}
 use Rattle.laws.proofs.Pick.{pick-ind}
-use Rattle.laws.proofs.Bools.{not-fails}
+use Rattle.laws.proofs.Bools.{not-fails, both-left, both-right}
 use Rattle.tiles.specs.Tiles.{Bytes}
 use Rattle.controller.specs.Table.{lowest}
 use Rattle.controller.proofs.Only.{some-number, only-number}
@@ -23,7 +23,7 @@ use Rattle.recording.specs.declared.record.Recorded.the-variants as answ
 use Rattle.lines.specs.Hex.{digitByte, hexText, placed}
 use Rattle.lines.specs.Line.{isLine, worth, hexPart, numberAt, spelled, frameOf}
 use Rattle.recording.specs.Record.{rowHex, rowLine, lineOf, cantSay, ended, recordRows, Recording, unrecorded, filled, recordMeans, recorded, bytesAt}
-use Rattle.lines.proofs.Digits.{first-half, second-half, clash, worth-small, digit-back, hex-parts, hex-within}
+use Rattle.lines.proofs.Digits.{worth-small, digit-back, hex-parts, hex-within}
 use Rattle.lines.proofs.Placed.{length-hex, take-placed, drop-placed}
 use Rattle.recording.proofs.Written.{inRecording, line-refuses, line-fits, length-digits, row-long, length-row-line}
 use Rattle.lines.proofs.Spelt.{text-number}
@@ -89,13 +89,13 @@ text-back line at zero fits h = refl
 text-back line at (suc n) fits h =
     let d = getD line (at + n) 0 in
     let m = numberAt line at n in
-    let front : hexPart line at n ≡ true = first-half _ _ h in
-    let w : worth d < 16 = worth-small d (second-half (hexPart line at n) _ h) in
+    let front : hexPart line at n ≡ true = both-left _ _ h in
+    let w : worth d < 16 = worth-small d (both-right (hexPart line at n) _ h) in
     let p : (m * 16 + worth d) / 16 ≡ m = omega arith in
     let q : (m * 16 + worth d) % 16 ≡ worth d = omega arith in
     let long : n < length (drop at line) = simp length-drop (omega arith) in
     (λ i. hexText n (p i) ++ (digitByte (q i) ∷ []))
-    ∙ (λ i. text-back line at n (omega arith) front i ++ ((digit-back d (second-half (hexPart line at n) _ h) ∙ sym (getD-drop at line n 0)) i ∷ []))
+    ∙ (λ i. text-back line at n (omega arith) front i ++ ((digit-back d (both-right (hexPart line at n) _ h) ∙ sym (getD-drop at line n 0)) i ∷ []))
     ∙ sym (take-suc (drop at line) n 0 long)
 
 row-back : (line : List ℕ) (at n : ℕ) → at + 2 * n ≤ length line → hexPart line at (2 * n) ≡ true → rowHex (bytesAt line at n) ≡ take (2 * n) (drop at line)
@@ -104,7 +104,7 @@ row-back line at zero fits h = refl
 row-back line at (suc n) fits h =
     let e : 2 * suc n ≡ 2 + 2 * n = omega arith in
     let both = sym (hex-parts line at 2 (2 * n)) ∙ ap (hexPart line at) (sym e) ∙ h in
-    (λ i. text-back line at 2 (omega arith) (first-half _ _ both) i ++ row-back line (at + 2) n (omega arith) (second-half (hexPart line at 2) _ both) i)
+    (λ i. text-back line at 2 (omega arith) (both-left _ _ both) i ++ row-back line (at + 2) n (omega arith) (both-right (hexPart line at 2) _ both) i)
     ∙ ap (λ r. take 2 (drop at line) ++ take (2 * n) r) (sym (drop-drop 2 at line))
     ∙ sym (take-add 2 (2 * n) (drop at line))
     ∙ ap (λ k. take k (drop at line)) (sym e)
@@ -129,12 +129,12 @@ module _ (line : List ℕ) where
     digits at n fits = text-back line at n fits (hex-within line (length line) at n hex fits)
 
     long : (k n : ℕ) → isLine line k n ≡ true → length line ≡ n
-    long k n t = eqb-true (length line) n (second-half (eqb (numberAt line 0 2) k) (eqb (length line) n) t)
+    long k n t = eqb-true (length line) n (both-right (eqb (numberAt line 0 2) k) (eqb (length line) n) t)
 
     kind : (k n : ℕ) → isLine line k n ≡ true → 2 ≤ n → hexText 2 k ≡ take 2 line
     kind k n t h =
         let l = long k n t in
-        ap (hexText 2) (sym (eqb-true (numberAt line 0 2) k (first-half (eqb (numberAt line 0 2) k) (eqb (length line) n) t))) ∙ digits 0 2 (omega arith)
+        ap (hexText 2) (sym (eqb-true (numberAt line 0 2) k (both-left (eqb (numberAt line 0 2) k) (eqb (length line) n) t))) ∙ digits 0 2 (omega arith)
 
     spelled-back : Back (spelled line)
     unfolding spelled lineOf rowLine
@@ -149,7 +149,7 @@ module _ (line : List ℕ) where
         (λ t ok. (λ i. kind 3 10 t (omega arith) i ++ digits 2 8 (omega (arith, long 3 10 t)) i) ∙ two-parts 2 8 (long 3 10 t))
         (λ z. pick-ind Back (isLine line 4 260 && leb (numberAt line 2 2) 0x7F)
         (λ t ok.
-        let s = first-half (isLine line 4 260) (leb (numberAt line 2 2) 0x7F) t in
+        let s = both-left (isLine line 4 260) (leb (numberAt line 2 2) 0x7F) t in
         let l = long 4 260 s in
         (λ i. kind 4 260 s (omega arith) i ++ (digits 2 2 (omega arith) i ++ row-back line 4 128 (omega arith) (hex-within line (length line) 4 256 hex (omega arith)) i))
         ∙ three-parts 2 2 256 l)
@@ -171,7 +171,7 @@ line-most (Write a v) bytes h =
     omega (arith, length-append (hexText 2 2 ++ (hexText 4 a ++ hexText 2 v)) (0x0A ∷ []), length-append (hexText 2 2) (hexText 4 a ++ hexText 2 v), length-append (hexText 4 a) (hexText 2 v), length-hex 2 2, length-hex 4 a, length-hex 2 v)
 line-most (Tick n) bytes h = omega (arith, length-digits 3 8 n)
 line-most (Row y) bytes h = omega (arith, length-row-line y bytes (row-long y bytes (not-fails _ h)))
-line-most Malformed bytes h = absurd (clash (sym h))
+line-most Malformed bytes h = absurd (false≢true (sym h))
 
 module _ (f : Frame) (bytes out : List ℕ) where
   -- a frame is refused by the lowest number of its rows, and only then

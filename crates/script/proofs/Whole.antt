@@ -1,6 +1,6 @@
 -- A text that is read in pieces, cut anywhere, prints what the whole text prints. Assumes nothing.
 use mathlib.Core.Path.{_≡_, refl, sym, ap, _∙_}
-use mathlib.Core.Bool.{true, false}
+use mathlib.Core.Bool.{true, false, and-false}
 use mathlib.Core.List.{List, [], _∷_, _++_, append-assoc, append-nil}
 use Prim.Native.Nat.{ℕ, suc, _+_, _-_, _<_, _≤_, min}
 use native.Mathlib.Nat.{add-zero, add-assoc}
@@ -21,7 +21,6 @@ use Rattle.session.specs.Answer.{answerText}
 use Rattle.session.specs.Session.{World, Step, step, refused, frameStep, stepOf}
 use Rattle.script.specs.Text.{begins, linesOf, after, played, sessionOf}
 use Rattle.script.specs.Pieces.{Reading, reading, lineEnded, lineKept, byteKept, byteRead, readAll, noRoom, fed, readerOf, newReader, heldBy, opened, lastLine, finishMeans, inPieces, joined}
-use Rattle.lines.proofs.Digits.{and-false}
 use Rattle.lines.proofs.Frames.{too-long}
 use Rattle.script.proofs.Feeds.{kept-more, few-kept}
 

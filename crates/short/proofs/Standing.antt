@@ -1,6 +1,6 @@
 -- Lines that are read where they stand: one that says a frame ends where an LF stands after it. Assumes nothing.
 use mathlib.Core.Path.{_≡_, sym, ap, _∙_}
-use mathlib.Core.Bool.{true, false}
+use mathlib.Core.Bool.{true, false, false≢true}
 use mathlib.Core.List.{List}
 use Prim.Native.Nat.{ℕ, _+_, _-_, _<_, _≤_}
 use native.Mathlib.Nat.{add-zero}
@@ -9,11 +9,11 @@ use lib.Dec.{eqb}
 use lib.ListN.{length, getD, take, drop, length-drop}
 use lib.Seq.{getD-drop, getD-take, length-take-le}
 use borrow.Author.Tests.{eq-eqb, eqb-true}
-use Rattle.laws.proofs.Bools.{either}
+use Rattle.laws.proofs.Bools.{either, both-right}
 use Rattle.laws.proofs.Order.{split}
 use Rattle.lines.specs.Line.{isHex, hexPart, frameOf}
 use Rattle.lines.specs.Kinds.{isMalformed}
-use Rattle.lines.proofs.Digits.{second-half, clash, hex-within}
+use Rattle.lines.proofs.Digits.{hex-within}
 use Rattle.lines.proofs.Frames.{bad}
 use Rattle.session.specs.Session.{World, stepOf}
 use Rattle.session.specs.Aside.{Printed}
@@ -29,7 +29,7 @@ passed-one piece from i before here k a b e =
 
 -- a digit is no LF
 no-end : (b : ℕ) → isHex b ≡ true → eqb b 0x0A ≡ false
-no-end b h = either (eqb b 0x0A) (λ t. absurd (clash (sym (ap isHex (eqb-true b 0x0A t)) ∙ h))) (λ f. f)
+no-end b h = either (eqb b 0x0A) (λ t. absurd (false≢true (sym (ap isHex (eqb-true b 0x0A t)) ∙ h))) (λ f. f)
 
 abbrev pub Endless : List ℕ → Type 0
 Endless line = (i : ℕ) → i < length line → eqb (getD line i 0) 0x0A ≡ false
@@ -37,12 +37,12 @@ Endless line = (i : ℕ) → i < length line → eqb (getD line i 0) 0x0A ≡ fa
 pub endless : (line : List ℕ) → hexPart line 0 (length line) ≡ true → Endless line
 unfolding hexPart
 endless line h i l =
-    let d = second-half true _ (hex-within line (length line) i 1 h (omega arith)) in
+    let d = both-right true _ (hex-within line (length line) i 1 h (omega arith)) in
     no-end (getD line i 0) (ap (λ k. isHex (getD line k 0)) (sym (add-zero i)) ∙ d)
 
 -- what says a frame is digits
 said-hex : (line : List ℕ) → isMalformed (frameOf line) ≡ false → hexPart line 0 (length line) ≡ true
-said-hex line h = either (hexPart line 0 (length line)) (λ t. t) (λ z. absurd (clash (sym h ∙ ap isMalformed (bad line z))))
+said-hex line h = either (hexPart line 0 (length line)) (λ t. t) (λ z. absurd (false≢true (sym h ∙ ap isMalformed (bad line z))))
 
 -- and no digit is LF
 pub ends-there : (piece : List ℕ) (from end : ℕ) → from ≤ end → end < length piece → getD piece end 0 ≡ 0x0A
@@ -56,7 +56,7 @@ ends-there piece from end a l e h = record {
       let byte : getD (take (end - from) (drop from piece)) (k - from) 0 ≡ 0x0A =
       getD-take (end - from) (drop from piece) (k - from) 0 n ∙ getD-drop from piece (k - from) 0 ∙ ap (λ j. getD piece j 0) z ∙ f in
       let long : length (take (end - from) (drop from piece)) ≡ end - from = length-take-le (end - from) (drop from piece) (simp length-drop (omega arith)) in
-      absurd (clash (sym (endless _ (said-hex _ h) (k - from) (omega arith)) ∙ eq-eqb _ 0x0A byte));
+      absurd (false≢true (sym (endless _ (said-hex _ h) (k - from) (omega arith)) ∙ eq-eqb _ 0x0A byte));
   found = λ _. e;
 }
 

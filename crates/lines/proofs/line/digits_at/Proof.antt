@@ -5,9 +5,10 @@ use Prim.Native.Nat.{ℕ, _≤_, _<_, _+_, _-_}
 use native.Mathlib.Omega.{arith}
 use lib.ListN.{getD}
 use borrow.Author.Needs.{needs}
+use Rattle.laws.proofs.Bools.{both-hold}
 use Rattle.lines.specs.Line.{isHex, worth, hexPart, numberAt}
 use Rattle.lines.specs.declared.line.Number.the-variants as numbers
-use Rattle.lines.proofs.Digits.{both, some-digit, no-digit, hex-more, hex-stops, number-more, number-small, number-none, number-some, room}
+use Rattle.lines.proofs.Digits.{some-digit, no-digit, hex-more, hex-stops, number-more, number-small, number-none, number-some, room}
 use Rattle.lines.proofs.line.digits_at.Statement.{statement}
 use Rattle.lines.proofs.line.digits_at.Tie as tie
 
@@ -76,7 +77,7 @@ loop-again c =
     let a = c .before .before .before .before .before .before .before .before .args in
     let l = c .before .before .before .before .before .before .loop in (
       omega arith,
-      hex-more (a .line .now) (a .at) (l .i) ∙ both _ _ (l .inv .1) (digit c .0),
+      hex-more (a .line .now) (a .at) (l .i) ∙ both-hold (l .inv .1) (digit c .0),
       cc (number-more (a .line .now) (a .at) (l .i), digit c .1, l .inv .2),
     )
 

@@ -1,11 +1,12 @@
 -- `lines::line::row_line` meets its contract: the kind is known, and length, row and digits decide. Assumes nothing.
+use mathlib.Core.Bool.{and-false}
 use mathlib.Core.Path.{_≡_, sym, ap, _∙_}
 use native.Mathlib.Omega.{arith}
 use lib.ListN.{length}
 use borrow.Author.Tests.{eq-eqb, ne-eqb, le-leb, lt-leb, not-true, not-false}
 use borrow.Author.Needs.{needs}
 use Rattle.lines.specs.Line.{hexPart, spelled}
-use Rattle.lines.proofs.Digits.{Spells, none-of, some-of, hex-joined, hex-broken, hex-fails, and-false}
+use Rattle.lines.proofs.Digits.{Spells, none-of, some-of, hex-joined, hex-broken, hex-fails}
 use Rattle.lines.proofs.Frames.{wrong, bad, good}
 use Rattle.lines.proofs.line.row_line.Statement.{statement}
 use Rattle.lines.proofs.line.row_line.Tie as tie
