@@ -31,12 +31,12 @@ alike true false t = absurd t
 alike false true t = absurd t
 alike false false t = refl
 
--- 85 times its two lowest bits
-pub grey-test : (v : ℕ) → v < 256 → eqb v (85 * (v % 4)) ≡ isGrey v
+-- each two of its bits are as the two above
+pub grey-test : (v : ℕ) → v < 256 → eqb (v / 4) (v % 64) ≡ isGrey v
 unfolding isGrey none
 grey-test v h =
-    alike (eqb v (85 * (v % 4))) (isGrey v)
-    (at (λ k x. pick (eqb k (85 * (k % 4))) (isGrey k) (not (isGrey k))) (none 256) tt v h)
+    alike (eqb (v / 4) (v % 64)) (isGrey v)
+    (at (λ k x. pick (eqb (k / 4) (k % 64)) (isGrey k) (not (isGrey k))) (none 256) tt v h)
 
 -- the bits of its shade are those that it has not
 grey-bits : (v : ℕ) → v < 256 → isGrey v ≡ true → (unset 1 v ≡ shadeOf v % 2) × (unset 2 v ≡ shadeOf v / 2)
