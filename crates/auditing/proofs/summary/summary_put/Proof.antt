@@ -1,19 +1,11 @@
 -- `auditing::summary::summary_put` meets its contract: what is not whole was touched. Assumes nothing.
-use mathlib.Core.Path.{_≡_, refl}
-use mathlib.Core.Bool.{Bool, true, false}
 use lib.ListN.{getD}
-use mir.Val.{boolByte}
-use Rattle.laws.specs.Pick.{pick}
+use Rattle.layout.proofs.Stores.{as-flag}
 use Rattle.wording.specs.Events.{summaryText}
 use Rattle.events.proofs.Puts.{put-same}
 use borrow.Author.Needs.{needs}
 use Rattle.auditing.proofs.summary.summary_put.Statement.{statement}
 use Rattle.auditing.proofs.summary.summary_put.Tie as tie
-
--- a flag as a number
-as-one : (t : Bool) → boolByte t ≡ pick t 1 0
-as-one true = refl
-as-one false = refl
 
 shared-slice-read-touched-of : tie.Need-shared-slice-read-touched-of
 shared-slice-read-touched-of c = search needs
@@ -55,7 +47,7 @@ same-length : tie.Need-same-length
 same-length c = search needs
 
 returns : tie.Need-returns
-returns c = let b = c .before .before .before .before .before .before .before .before .before .before .before .before .before .before .before .before .args .book .now in put-same (λ i. summaryText (getD b 2 0) (getD b 7 0) (getD b 8 0) (getD b 9 0) (getD b 10 0) (getD b 11 0) (c .before .before .before .before .before .before .before .before .before .before .before .touched-of .ensures i) (getD b 12 0) (as-one (c .before .before .before .before .before .before .before .before .before .before .before .before .before .before .before .before .args .held) i)) (c .before .before .put-summary .ensures)
+returns c = let b = c .before .before .before .before .before .before .before .before .before .before .before .before .before .before .before .before .args .book .now in put-same (λ i. summaryText (getD b 2 0) (getD b 7 0) (getD b 8 0) (getD b 9 0) (getD b 10 0) (getD b 11 0) (c .before .before .before .before .before .before .before .before .before .before .before .touched-of .ensures i) (getD b 12 0) (as-flag (c .before .before .before .before .before .before .before .before .before .before .before .before .before .before .before .before .args .held) i)) (c .before .before .put-summary .ensures)
 
 pub summary-put-spec : {M : Type 1} → statement M
 summary-put-spec =
