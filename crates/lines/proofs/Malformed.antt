@@ -8,9 +8,8 @@ use lib.Dec.{eqb, leb, lit<, lit≤}
 use lib.ListN.{length, getD}
 use borrow.Author.Tests.{eq-eqb, eqb-true, le-leb, lt-leb, lt-ltb}
 use Rattle.laws.specs.Pick.{pick}
-use Rattle.laws.proofs.Bools.{either, both-left, both-right, both-hold}
+use Rattle.laws.proofs.Bools.{either, both-left, both-right, both-hold, not-both}
 use Rattle.laws.proofs.Order.{split}
-use Rattle.laws.proofs.Pick.{never}
 use Rattle.lines.specs.declared.line.Frame.the-variants.{Reset, Read, Write, Tick, Row, Malformed}
 use Rattle.lines.specs.Hex.{digitByte}
 use Rattle.lines.specs.Line.{isHex, worth, hexPart, numberAt, isLine, spelled, frameOf}
@@ -103,7 +102,7 @@ module _ (line : List ℕ) (h : allHex line ≡ true) where
   hex-at i l =
       let z : 0 + i ≡ i = omega arith in
       either (isHex (getD line i 0)) (λ t. t)
-      (λ f. absurd (never (sym (all-hex line) ∙ h) (hex-stops line 0 i (length line) l (ap (λ k. isHex (getD line k 0)) z ∙ f))))
+      (λ f. not-both (sym (all-hex line) ∙ h) (hex-stops line 0 i (length line) l (ap (λ k. isHex (getD line k 0)) z ∙ f)))
 
   of-kind : (k n : ℕ) → k < 10 → 2 ≤ n → isLine line k n ≡ ofKind (0x30 + k) n line
   unfolding ofKind
