@@ -1,4 +1,6 @@
 // An answer as one number: the refusal's number * 2^32 + the value.
+#![tactic(auto)]
+
 ghost use Rattle.std.specs.Prelude.{◌≡◌, [], ◌≤◌};
 ghost use Rattle.controller.specs.Outcome.{number_of, read_number, read_value, write_number};
 ghost use Rattle.recording.specs.Record.{recorded};

@@ -1,5 +1,7 @@
 // The audit program: plays a recording on standard input as `bus` plays a script, and says of each capture what happened to it. What is said
 // stands in `ledger`, whose contracts determine every byte of it.
+#![tactic(auto)]
+
 ghost use Rattle.std.specs.Prelude.{◌≤◌, length};
 
 use controller::Controller;
@@ -9,7 +11,7 @@ use playing::{play, tell};
 use session::session::bytes_of;
 
 // Whether more of the input is to be played, and whether it has ended: only then is the end of the recording told.
-#[derive(Drop)]
+#[derive(Clone, Copy)]
 struct Heard {
     on: bool,
     ended: bool,

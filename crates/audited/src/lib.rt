@@ -1,1 +1,2 @@
 // What an audit says holds: theorems only, no code.
+#![tactic(auto)]

@@ -1,4 +1,6 @@
 // The bus script program: plays standard input to its end, one answer for each line. What can be said with a contract is in `script`.
+#![tactic(auto)]
+
 ghost use Rattle.std.specs.Prelude.{◌<◌, ◌≤◌, length};
 ghost use Rattle.io.specs.Counts.{IsPrefixLen};
 
@@ -7,7 +9,7 @@ use libc::{STDERR_FILENO, STDIN_FILENO, STDOUT_FILENO};
 use script::text::{Reader, feed, finish};
 
 // What goes on from one piece of the input to the next.
-#[derive(Drop)]
+#[derive(Clone, Copy)]
 struct Session {
     reader: Reader,
     state: Controller,

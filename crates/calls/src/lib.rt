@@ -1,5 +1,7 @@
 // Reads, writes and ticks over the bytes of a record: each looks at the bytes that it asks for where they stand, and changes those alone that it must.
 // Only a start and the end of a capture, which change half of the record, have it read and written whole.
+#![tactic(auto)]
+
 ghost use Rattle.std.specs.Prelude.{◌≡◌, true, [], ◌<◌, ◌≤◌, length};
 ghost use Rattle.lighting.specs.Light.{byte_at};
 ghost use Rattle.tiles.specs.Tiles.{Bytes};

@@ -1,4 +1,6 @@
 // Captures: what a tick does with the state record, the RAM and the frame store lent.
+#![tactic(auto)]
+
 ghost use Rattle.std.specs.Prelude.{◌≡◌, Bool, true, false, ◌&&◌, List, [], ◌∷◌, ℕ, ◌+◌, ◌*◌, ◌/◌, ◌%◌, ◌<◌, ◌≤◌, length, get_or};
 ghost use Rattle.lighting.specs.Light.{byte_at};
 ghost use Rattle.timing.specs.Timing.{total_of};
@@ -66,7 +68,7 @@ fn ran(state: Controller, n: u32) -> TickDone
 }
 
 // What some cycles of a running capture come to: how many of them ran, whether it is over, and the cycles elapsed where it is not.
-#[derive(Drop)]
+#[derive(Clone, Copy)]
 pub struct Passed {
     pub ran: u32,
     pub over: bool,

@@ -1,4 +1,6 @@
 // Bus rules: what a read gives and what a write does.
+#![tactic(auto)]
+
 ghost use Rattle.std.specs.Prelude.{◌≡◌, Bool, true, false, List, [], ◌∷◌, ℕ, ◌+◌, ◌*◌, ◌/◌, ◌%◌, ◌<◌, ◌≤◌, length, get_or, set};
 ghost use Rattle.timing.specs.Lent.{rom_allowed, ram_allowed};
 ghost use Rattle.controller.specs.declared.Controller.{Controller};

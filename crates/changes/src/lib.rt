@@ -1,4 +1,6 @@
 // What outside the picture area changed: stretches of RAM bytes that differ from what they were at first.
+#![tactic(auto)]
+
 ghost use Rattle.std.specs.Prelude.{◌≡◌, ◌-◌, ◌<◌, ◌≤◌, length};
 ghost use Rattle.history.specs.Seen.{in_area};
 ghost use Rattle.wording.specs.Aside.{Put};
@@ -7,7 +9,7 @@ ghost use Rattle.changes.specs.Changes.{differs, reach, begins, ends, stretch_te
 use wording::events::{put_changed, put_unchanged};
 
 // Where a stretch ends, and how many bytes its event is.
-#[derive(Drop)]
+#[derive(Clone, Copy)]
 pub struct Change {
     pub next: usize,
     pub written: usize,

@@ -1,5 +1,7 @@
 // The controller of the camera cartridge: the state record, refusals and answers. The modules follow the paper's headings:
 // state (which records can exist), judge (refusals), picture (afresh and whole), inspect. Ticks are in capture, reads and writes in cartridge.
+#![tactic(auto)]
+
 mod inspect;
 pub mod judge;
 mod picture;
@@ -8,7 +10,7 @@ pub mod state;
 use timing::Cycles;
 
 // The state record; captures started, and those that reached their end, are counted since reset.
-#[derive(Drop)]
+#[derive(Clone, Copy)]
 pub struct Controller {
     pub enabled: bool,
     pub bank: u8,
@@ -22,7 +24,7 @@ pub struct Controller {
 }
 
 // Refusals, by what can't exist, is not allowed, is too short or is held.
-#[derive(Drop)]
+#[derive(Clone, Copy)]
 pub enum Refusal {
     State,
     Rom,
@@ -39,32 +41,32 @@ pub enum Refusal {
 }
 
 // What judging a call comes to.
-#[derive(Drop)]
+#[derive(Clone, Copy)]
 pub enum Verdict {
     Fits,
     Refused(Refusal),
 }
 
-#[derive(Drop)]
+#[derive(Clone, Copy)]
 pub enum ReadAnswer {
     Byte(u8),
     Refused(Refusal),
 }
 
-#[derive(Drop)]
+#[derive(Clone, Copy)]
 pub enum WriteAnswer {
     Done,
     Refused(Refusal),
 }
 
-#[derive(Drop)]
+#[derive(Clone, Copy)]
 pub enum TickAnswer {
     Ran(Cycles),
     Refused(Refusal),
 }
 
 // An element of the matrix, by its row and column.
-#[derive(Drop)]
+#[derive(Clone, Copy)]
 pub enum Element {
     At(u8, u8),
     Level,
@@ -72,19 +74,19 @@ pub enum Element {
 }
 
 // The state handed back, and the answer.
-#[derive(Drop)]
+#[derive(Clone, Copy)]
 pub struct ReadDone {
     pub state: Controller,
     pub answer: ReadAnswer,
 }
 
-#[derive(Drop)]
+#[derive(Clone, Copy)]
 pub struct WriteDone {
     pub state: Controller,
     pub answer: WriteAnswer,
 }
 
-#[derive(Drop)]
+#[derive(Clone, Copy)]
 pub struct TickDone {
     pub state: Controller,
     pub answer: TickAnswer,

@@ -9,7 +9,7 @@ use controller::judge::refused_if;
 use controller::{Controller, Refusal, Verdict, WriteAnswer, WriteDone};
 
 // An exposure in steps, or none named.
-#[derive(Drop)]
+#[derive(Clone, Copy)]
 pub enum Exposure {
     Named(u16),
     Unnamed,

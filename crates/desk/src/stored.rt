@@ -7,7 +7,7 @@ use super::choice::{Chosen, Exposure, choose};
 use controller::Controller;
 
 // A choice as it is stored.
-#[derive(Drop)]
+#[derive(Clone, Copy)]
 pub struct Stored {
     pub light: u8,
     pub level: u8,

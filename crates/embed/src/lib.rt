@@ -1,6 +1,8 @@
 // What C and Rust call: the controller over numbers and byte slices, with the state record as 121 bytes (layout); `images`, `recorder` and
 // `ledger` have the other functions.
 // Each function answers the refusal's number * 2^32 + the value (answer). A refused call changes no byte it was lent.
+#![tactic(auto)]
+
 mod keep;
 
 ghost use Rattle.std.specs.Prelude.{◌≡◌, []};

@@ -13,7 +13,7 @@ use crc::crc32_small;
 use plates::grey::export;
 
 // What is seen of a line.
-#[derive(Drop)]
+#[derive(Clone, Copy)]
 pub enum Kind {
     Nothing,
     Start,
@@ -26,7 +26,7 @@ pub enum Kind {
 
 // An event, but for the registers of a start: serial, checksum of the image and line of its last row; serial and cycles; serial, place and
 // byte; serial, cycles and checksum of the plate, and how many writes touched it, with the first line and the last.
-#[derive(Drop)]
+#[derive(Clone, Copy)]
 pub enum Seen {
     Nothing,
     Start(u16, u32, u64),
@@ -39,7 +39,7 @@ pub enum Seen {
 }
 
 // What an event may say: the serial before the line and after it, the cycles with those of the line, the place and the byte of a write.
-#[derive(Drop)]
+#[derive(Clone, Copy)]
 pub struct Facts {
     pub serial: u16,
     pub next: u16,

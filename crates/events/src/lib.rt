@@ -1,4 +1,6 @@
 // The event of a line of a recording, its text, and the book that counts it.
+#![tactic(auto)]
+
 pub mod book;
 pub mod event;
 pub mod sight;

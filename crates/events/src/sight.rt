@@ -10,7 +10,7 @@ use lines::line::Frame;
 use timing::wide;
 
 // Of a record: whether a capture is held and whether it runs, its serial and its elapsed cycles, and select.
-#[derive(Drop)]
+#[derive(Clone, Copy)]
 pub struct Sight {
     pub held: bool,
     pub running: bool,
@@ -20,7 +20,7 @@ pub struct Sight {
 }
 
 // Of a frame: whether it is a reset, malformed, a row, a tick or a write; whether a write goes to the RAM, its address and its byte.
-#[derive(Drop)]
+#[derive(Clone, Copy)]
 pub struct Asks {
     pub reset: bool,
     pub malformed: bool,

@@ -1,4 +1,6 @@
 // The checked figures that carry no star, run through the public functions of sensor and controller: a line for each, with its name.
+#![tactic(auto)]
+
 mod captures;
 mod print;
 mod shades;

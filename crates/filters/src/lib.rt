@@ -1,4 +1,6 @@
 // From light to shade, step 4: the filters, each a function of nine signed values.
+#![tactic(auto)]
+
 ghost use Rattle.std.specs.Prelude.{◌≡◌, ◌+◌, ◌-◌, ◌/◌, ◌<◌, ◌≤◌, pos, nat_abs};
 ghost use Rattle.std.specs.Int.Signed.{quot_z};
 ghost use Rattle.filters.specs.Edge.{held, enhanced, extracted, mode2, mode3, mode_c, mode_d, mode_e, mode_f};

@@ -1,1 +1,2 @@
 // Any sequence of calls from reset: theorems only, no code.
+#![tactic(auto)]

@@ -1,4 +1,6 @@
 // What C and Rust call for pictures, plates and photographs. Each function answers as those of `embed` do.
+#![tactic(auto)]
+
 mod judge;
 
 ghost use Rattle.std.specs.Prelude.{◌≡◌, []};

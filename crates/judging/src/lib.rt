@@ -1,4 +1,6 @@
 // Judging a plate: which of its rows are those of the picture afresh of a frame, and how many.
+#![tactic(auto)]
+
 ghost use Rattle.std.specs.Prelude.{◌≡◌, ◌<◌, length};
 ghost use Rattle.laws.specs.Lists.{listed};
 ghost use Rattle.controller.specs.Outcome.{verdict_number};
@@ -9,7 +11,7 @@ use controller::judge::{no_frame, no_room};
 use controller::{Controller, Refusal, Verdict};
 
 // How many rows are equal, or why none was looked at.
-#[derive(Drop)]
+#[derive(Clone, Copy)]
 pub enum Judged {
     Rows(u32),
     Refused(Refusal),

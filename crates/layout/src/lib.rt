@@ -1,4 +1,6 @@
 // The state record as bytes, layout 3: 121 of them, numbers little-endian.
+#![tactic(auto)]
+
 ghost use Rattle.std.specs.Prelude.{◌≡◌, true, ◌++◌, ◌+◌, ◌<◌, ◌≤◌, length, take, drop};
 ghost use Rattle.layout.specs.Layout.{front, encoded, is_record, four_at, two_at, registers_at, decoded};
 

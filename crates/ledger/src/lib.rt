@@ -1,4 +1,6 @@
 // What C and Rust call to audit recordings. Each function answers as those of `embed` do; the book's first number is how many bytes were put into the buffer.
+#![tactic(auto)]
+
 ghost use Rattle.std.specs.Prelude.{◌≡◌, ◌≤◌, min, length, take};
 ghost use Rattle.controller.specs.Outcome.{verdict_number};
 ghost use Rattle.controller.specs.Table.{lowest};

@@ -1,11 +1,13 @@
 // From light to shade, steps 1 to 3: what the registers taken ask, and the light of a pixel and of a whole image.
+#![tactic(auto)]
+
 ghost use Rattle.std.specs.Prelude.{◌≡◌, ◌+◌, ◌-◌, ◌/◌, ◌%◌, ◌<◌, length, get_or};
 ghost use Rattle.lighting.specs.Taken.{exposure_of, alphas};
 ghost use Rattle.lighting.specs.Aside.{Asked};
 ghost use Rattle.lighting.specs.Light.{adapted, exposed, turned, light_of, light_frame};
 
 // What the registers taken ask of every pixel, worked out once.
-#[derive(Drop)]
+#[derive(Clone, Copy)]
 pub struct Setting {
     pub exposure: u16,
     pub inverted: bool,

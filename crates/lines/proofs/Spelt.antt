@@ -1,5 +1,5 @@
 -- The digits of a number spell that number: laws of `digit_byte` and `hex_text` under `hex_part` and `number_at`. Assumes nothing.
-use Rattle.std.proofs.Common.{◌≡◌, ℕ, zero, suc, ◌+◌, ◌-◌, ◌*◌, ◌/◌, ◌%◌, ◌^◌, ◌<◌, ◌≤◌, true, List, [], ◌∷◌, ◌++◌, length, get_or, sym, refl, ap, ◌∙◌, append_assoc, pow-suc, arith, get_or-append-add, le-ltb, lt-ltb, le-leb}
+use Rattle.std.proofs.Common.{◌≡◌, ℕ, zero, suc, ◌+◌, ◌-◌, ◌*◌, ◌/◌, ◌%◌, ◌^◌, ◌<◌, ◌≤◌, true, List, [], ◌∷◌, ◌++◌, length, get_or, sym, refl, ap, subst, ◌∙◌, append_assoc, pow-suc, arith, get_or-append-add, le-ltb, lt-ltb, le-leb}
 use lib.Seq.{get_or_at}
 use borrow.Author.Tests.{lt-leb}
 use Rattle.laws.proofs.Bools.{both_hold}
@@ -42,7 +42,7 @@ pub text_hex : (pre post : List ℕ) (n v : ℕ) → hex_part (pre ++ (hex_text 
 unfolding hex_part
 text_hex pre post zero v = refl
 text_hex pre post (suc n) v =
-    rw (last_apart pre post n v)
+    subst (λ text. hex_part text (length pre) (suc n) ≡ true) (sym (last_apart pre post n v))
     (both_hold (text_hex pre (digit_byte (v % 16) ∷ post) n (v / 16))
     (ap is_hex (last_digit pre post n v) ∙ digit_hex (v % 16) (omega arith)))
 
@@ -53,7 +53,7 @@ text_number pre post (suc n) v h =
     let s : v < 16 ^ n * 16 = rw pow-suc at h in
     let a = text_number pre (digit_byte (v % 16) ∷ post) n (v / 16) (omega arith) in
     let d = ap worth (last_digit pre post n v) ∙ digit_worth (v % 16) (omega arith) in
-    rw (last_apart pre post n v, a, d) (omega arith)
+    subst (λ text. number_at text (length pre) (suc n) ≡ v) (sym (last_apart pre post n v)) (rw (a, d) (omega arith))
 
 -- what n digits of a line spell
 pub spells : (line pre post : List ℕ) (at n v : ℕ) → line ≡ pre ++ (hex_text n v ++ post) → at ≡ length pre → v < 16 ^ n → Spells line at n v

@@ -5,21 +5,21 @@ ghost use Rattle.lines.specs.Line.{is_hex, worth, digit_of, hex_part, number_at,
 use super::reader::numbers;
 
 // A byte as an upper-case hexadecimal digit.
-#[derive(Drop)]
+#[derive(Clone, Copy)]
 pub enum Digit {
     Value(u8),
     NotHex,
 }
 
 // The number that some digits spell.
-#[derive(Drop)]
+#[derive(Clone, Copy)]
 pub enum Number {
     Value(u32),
     NotHex,
 }
 
 // One frame a line. A row's bytes stay in the line.
-#[derive(Drop)]
+#[derive(Clone, Copy)]
 pub enum Frame {
     Reset,
     Read(u16),

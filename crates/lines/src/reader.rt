@@ -5,14 +5,14 @@ ghost use Rattle.lines.specs.Line.{number_of};
 
 use super::line::{Number, number_at};
 
-#[derive(Drop)]
+#[derive(Clone, Copy)]
 pub struct LineReader<'a> {
     pub line: &'a [u8],
     pub at: usize,
 }
 
 // Two numbers, one after the other, and where the reader stands after them.
-#[derive(Drop)]
+#[derive(Clone, Copy)]
 pub struct Reading {
     pub first: Number,
     pub second: Number,

@@ -1,4 +1,6 @@
 // The matrix of thresholds in 54 registers: the first element whose three values don't rise or stay level.
+#![tactic(auto)]
+
 ghost use Rattle.std.specs.Prelude.{◌≡◌, Bool, ℕ, ◌+◌, ◌*◌, ◌<◌, ◌≤◌};
 ghost use Rattle.matrix.specs.Matrix.{reversed, first_in};
 

@@ -1,4 +1,6 @@
 // A recording in pieces, at most one line to a call, and its end.
+#![tactic(auto)]
+
 ghost use Rattle.std.specs.Prelude.{◌≡◌, true, ◌+◌, ◌≤◌, length, set};
 ghost use Rattle.layout.specs.Layout.{is_record, decoded};
 ghost use Rattle.session.specs.Session.{world};

@@ -1,4 +1,6 @@
 // A plate's file back into the picture area, whether or not RAM writing is enabled.
+#![tactic(auto)]
+
 ghost use Rattle.std.specs.Prelude.{◌≡◌, true, [], ◌+◌, ◌*◌, ◌<◌, ◌≤◌, eqb, length, get_or};
 ghost use Rattle.laws.specs.Lists.{listed};
 ghost use Rattle.strips.specs.Aside.{place_of};
@@ -105,7 +107,7 @@ fn add_column(turned: &[u8; 128], b: usize, w: u8, low: &mut [u8; 16], high: &mu
 }
 
 // A row's sixteen bytes of low bits, and of high bits.
-#[derive(Drop)]
+#[derive(Clone, Copy)]
 struct Sixteen {
     low: [u8; 16],
     high: [u8; 16],

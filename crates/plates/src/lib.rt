@@ -1,2 +1,4 @@
 // Plates as files that others read: the picture area as a grey image (grey).
+#![tactic(auto)]
+
 pub mod grey;

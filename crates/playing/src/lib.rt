@@ -1,4 +1,6 @@
 // Pieces of a recording: each is played, and the events of its lines are written to standard output as they come.
+#![tactic(auto)]
+
 ghost use Rattle.std.specs.Prelude.{◌<◌, ◌≤◌, length};
 ghost use Rattle.io.specs.Counts.{IsPrefixLen};
 
@@ -7,7 +9,7 @@ use libc::STDOUT_FILENO;
 use sweeping::lines_audited;
 
 // How much of a piece was played, and whether its events could be written.
-#[derive(Drop)]
+#[derive(Clone, Copy)]
 struct Turn {
     used: usize,
     heard: bool,

@@ -1,4 +1,6 @@
 // The reading before the dots: the value of each pixel of a held capture, as a Netpbm file of the kind that a plate has.
+#![tactic(auto)]
+
 ghost use Rattle.std.specs.Prelude.{◌≡◌, ◌++◌, ℕ, ◌+◌, ◌/◌, ◌%◌, ◌≤◌, length, drop};
 ghost use Rattle.laws.specs.Lists.{listed};
 ghost use Rattle.lighting.specs.Aside.{Sane};

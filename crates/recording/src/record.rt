@@ -16,7 +16,7 @@ pub const ROW: usize = 128;
 pub const ROW_LINE: usize = 261;
 
 // The length of the line written, with its LF; or why none was.
-#[derive(Drop)]
+#[derive(Clone, Copy)]
 pub enum Recorded {
     Line(usize),
     Refused(Refusal),

@@ -1,1 +1,2 @@
 // The refusals of each exported function: theorems only, no code.
+#![tactic(auto)]

@@ -1,4 +1,6 @@
 // The salvage program: a script on standard input, the cleaned script on standard output, one sentence on standard error.
+#![tactic(auto)]
+
 ghost use Rattle.std.specs.Prelude.{◌≡◌};
 ghost use Rattle.io.specs.Counts.{IsPrefixLen};
 ghost use Rattle.salvage.specs.Counted.{counted};
@@ -29,7 +31,7 @@ fn within(n: usize, buf: &[u8]) -> usize
 }
 
 // How much of the input was read, and whether that is all of it, or all that fits.
-#[derive(Drop)]
+#[derive(Clone, Copy)]
 struct Gathered {
     length: usize,
     whole: bool,

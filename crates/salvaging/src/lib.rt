@@ -1,4 +1,6 @@
 // Scripts with a second copy on the end: accepted lines are kept, malformed ones dropped, and a second copy too.
+#![tactic(auto)]
+
 pub mod place;
 pub mod put;
 pub mod twice;
@@ -16,7 +18,7 @@ use twice::kept;
 pub const LONGEST: usize = 32768;
 
 // The text's length and the number of lines; or why nothing was written.
-#[derive(Drop)]
+#[derive(Clone, Copy)]
 pub enum Salvaged {
     Cleaned(usize, usize),
     Refused(Refusal),

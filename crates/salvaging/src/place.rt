@@ -7,7 +7,7 @@ ghost use Rattle.salvaging.specs.Aside.{line_length, lines_at, accepted_at, Next
 use lines::line::{Frame, frame_of};
 
 // Where a line begins, and where it ends: its LF not counted.
-#[derive(Drop)]
+#[derive(Clone, Copy)]
 pub struct Place {
     pub from: usize,
     pub end: usize,

@@ -1,2 +1,4 @@
 // The bus script: a text in pieces to its answers.
+#![tactic(auto)]
+
 pub mod text;

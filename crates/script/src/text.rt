@@ -16,14 +16,14 @@ use short::{line_end, short_lines};
 pub const HELD: usize = 261;
 
 // The first bytes of the line that has begun, and how many of them are held: 261 where it is over 260 bytes.
-#[derive(Drop)]
+#[derive(Clone, Copy)]
 pub struct Reader {
     pub line: [u8; 261],
     pub held: usize,
 }
 
 // What a piece leaves: the reader, the state, how many bytes of the piece were read and of the answers written.
-#[derive(Drop)]
+#[derive(Clone, Copy)]
 pub struct Fed {
     pub reader: Reader,
     pub state: Controller,

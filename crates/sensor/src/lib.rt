@@ -1,4 +1,6 @@
 // From light to shade, steps 4 to 6: one pixel's value and shade, from a store of lit values and the registers taken.
+#![tactic(auto)]
+
 pub mod nine;
 pub mod row;
 pub mod shade;
@@ -12,7 +14,7 @@ use lighting::Setting;
 use shade::{shade, value};
 
 // A pixel of the sensor: its value, 0 to 255, and its shade.
-#[derive(Drop)]
+#[derive(Clone, Copy)]
 pub struct Pixel {
     pub value: u8,
     pub shade: u8,

@@ -9,7 +9,7 @@ use lines::hex::put_line;
 pub const ANSWER: usize = 11;
 
 // The refusal number (0: none), and a value in so many digits.
-#[derive(Drop)]
+#[derive(Clone, Copy)]
 pub struct Answer {
     pub number: u32,
     pub digits: usize,

@@ -215,7 +215,7 @@ pub fn line_done(
 }
 
 // A line's answer: so many of the bytes of `text`, and the others 0.
-#[derive(Drop)]
+#[derive(Clone, Copy)]
 pub struct Stepped {
     pub state: Controller,
     pub text: [u8; 11],

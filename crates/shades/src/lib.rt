@@ -1,4 +1,6 @@
 // The picture area as shades, one a byte, whether or not a capture is running.
+#![tactic(auto)]
+
 ghost use Rattle.std.specs.Prelude.{◌≡◌, Bool, ◌+◌, ◌-◌, ◌*◌, ◌<◌, ◌≤◌, length};
 ghost use Rattle.laws.specs.Lists.{listed};
 ghost use Rattle.laws.specs.Pick.{pick};
@@ -11,7 +13,7 @@ use controller::judge::{no_ram, no_room};
 use controller::{Refusal, Verdict};
 
 // How many bytes were written, or why none.
-#[derive(Drop)]
+#[derive(Clone, Copy)]
 pub enum Output {
     Bytes(u32),
     Refused(Refusal),

@@ -1,4 +1,6 @@
 // Lines of a piece, read where they stand: where one ends; reads, writes and ticks one after the other, whose kind says where their LF is to be.
+#![tactic(auto)]
+
 ghost use Rattle.std.specs.Prelude.{◌≡◌, true, ◌+◌, ◌≤◌, ◌<◌, length};
 ghost use Rattle.layout.specs.Layout.{is_record, decoded};
 ghost use Rattle.lines.specs.Kinds.{is_malformed};
@@ -13,7 +15,7 @@ use session::session::line_done;
 const LONGEST: usize = 11;
 
 // Where the next line begins in a piece, and where its answer goes in a buffer.
-#[derive(Drop)]
+#[derive(Clone, Copy)]
 pub struct Place {
     pub from: usize,
     pub at: usize,

@@ -1,6 +1,8 @@
 // Step 6 of light to shade by the row: the shades of a row of values as two bits a pixel, eight to a byte. No step turns on a value, so that many
 // columns are done at a time. They are turned for it: first the first of every eight columns, then the second of every eight, and so on, so that
 // what is alike stands side by side, and a byte gets its eight bits where it stands.
+#![tactic(auto)]
+
 ghost use Rattle.std.specs.Prelude.{◌≡◌, ◌+◌, ◌*◌, ◌/◌, ◌%◌, ◌<◌, length, get_or};
 ghost use Rattle.laws.specs.Lists.{listed};
 ghost use Rattle.sensor.specs.Shade.{shade_by};

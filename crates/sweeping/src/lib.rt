@@ -1,4 +1,6 @@
 // Whole lines of a recording, one after the other, as long as there is room for their events: what a program plays a piece by.
+#![tactic(auto)]
+
 mod runs;
 
 ghost use Rattle.std.specs.Prelude.{◌≡◌, true, ◌&&◌, leb, ltb, length};
@@ -12,7 +14,7 @@ use runs::short_lines;
 use short::line_end;
 
 // The bytes of a piece that were played, and of events that were put into a buffer.
-#[derive(Drop)]
+#[derive(Clone, Copy)]
 pub struct Swept {
     pub used: usize,
     pub written: usize,

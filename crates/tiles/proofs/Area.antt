@@ -148,7 +148,7 @@ picture_lit {lit} {mit} alike regs =
 -- and so do two images that agree there
 pub picture_rows_lem : (f g regs : List ℕ) → ((x row : ℕ) → x < 128 → 7 ≤ row → row ≤ 120 → byte_at f x row ≡ byte_at g x row)
     → picture_of (lit_of f (setting_of regs)) regs ≡ picture_of (lit_of g (setting_of regs)) regs
-picture_rows_lem f g regs alike = picture_lit (sensed.lit-rows f g alike (setting_of regs)) regs
+picture_rows_lem f g regs alike = picture_lit (sensed.lit_rows f g alike (setting_of regs)) regs
 
 -- a RAM that shows the picture's shades has the picture in its area
 pub area_whole : (lit : ℕ → ℕ → ℕ) (regs ram : List ℕ) → 8192 ≤ length ram → Bytes ram → Alike (shade_in ram) (picture_shade lit regs) → area_of ram ≡ picture_of lit regs

@@ -1,5 +1,7 @@
 // Step 7 of light to shade: where a shade stands in the RAM, a range of the picture's pixels put there, and the picture afresh.
 // It knows stores of lit values, registers and RAM bytes, but neither the bus nor time.
+#![tactic(auto)]
+
 ghost use Rattle.std.specs.Prelude.{◌≡◌, ℕ, ◌+◌, ◌*◌, ◌/◌, ◌%◌, ◌<◌, ◌≤◌, length};
 ghost use Rattle.laws.specs.Bits.{put_bit};
 ghost use Rattle.lighting.specs.Aside.{Asked};

@@ -1,5 +1,7 @@
 // How long a capture takes, which of the picture's pixels fall into which cycles, and which lengths of lent memory are allowed.
 // It knows registers, lengths, RAM bytes and cycles, but neither the state record nor the bus, and refuses nothing.
+#![tactic(auto)]
+
 ghost use Rattle.std.specs.Prelude.{◌≡◌, Bool, true, false, ℕ, ◌+◌, ◌-◌, ◌*◌, ◌/◌, ◌%◌, ◌<◌, ◌≤◌, min, length};
 ghost use Rattle.std.specs.Int.Count.{ones};
 ghost use Rattle.lighting.specs.Taken.{exposure_of};
@@ -83,10 +85,10 @@ pub fn all_zero(regs: &[u8]) -> bool
 }
 
 // Cartridge cycles (PHI), and sensor clocks: two cycles make one clock.
-#[derive(Drop)]
+#[derive(Clone, Copy)]
 pub struct Cycles(pub u32);
 
-#[derive(Drop)]
+#[derive(Clone, Copy)]
 pub struct Clocks(pub u32);
 
 impl Cycles {

@@ -1,1 +1,2 @@
 // Worked histories: calls that meet the premises of the theorems on histories; no code.
+#![tactic(auto)]
