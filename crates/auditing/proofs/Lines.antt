@@ -211,7 +211,7 @@ tick_allowed c ram store n h = by_number (lowest (tick_rows c ram store)) refl
     by_number zero e =
         let f = tick_fits c ram store e in
         let k : Kept (length ram) (ticks (byte_at store) n (from c ram)) = ticks_keep (byte_at store) (length ram) n (from c ram) (record { exists = f.exists; long = refl }) in
-        rw ((tick_refuses c ram store n).does e) (rw k.long f.ram-fits)
+        rw ((tick_refuses c ram store n).does e) (rw k.long f.ram_fits)
     by_number (suc k) e = absurd (stays c.held (tick_means c ram store n).state.held false (λ t. rw ((tick_refuses c ram store n).kept k e) t) h)
 
 frame_end : (rom line : List ℕ) (w : World) (f : Frame) → (w.state.held && (not (asked w.state f).reset && not (frame_step rom line w f).world.state.held)) ≡ true

@@ -37,7 +37,7 @@ module _ (s ram store : List ℕ) (n : ℕ) (is : is_record s ≡ true) (v : Ver
       → (is_record s ≡ true) × (running (decoded s) ≡ true) × ((decoded s).elapsed.0 < total_of (decoded s).taken) × (8192 ≤ length ram) × (length store ≡ 16384)
   tick_runs e runs =
       let f = tick_fits _ _ _ (fits_none _ _ judged e) in
-      (is, runs, before_total (decoded s) f.exists (both_left (decoded s).held _ runs), (ram_lent _ f.ram-fits).least, frame_lent _ f.store-fits)
+      (is, runs, before_total (decoded s) f.exists (both_left (decoded s).held _ runs), (ram_lent _ f.ram_fits).least, frame_lent _ f.store_fits)
 
   pub tick_ran : v ≡ Fits → in_bytes (ticked store (ticks (byte_at store) n (from (decoded s) ram))) ≡ in_bytes (tick_means (decoded s) ram store n)
   tick_ran e = ap in_bytes (by_fits (tick_refuses _ _ _ n) _ judged e)

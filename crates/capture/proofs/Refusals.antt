@@ -50,4 +50,4 @@ tick_lent c ram store e = rw e (by_tests (ram_allowed (length ram)) (frame_allow
 -- a tick of what fits: no number
 pub tick_none : (c : Controller) (ram store : List ℕ) → TickFits c ram store → lowest (tick_rows c ram store) ≡ 0
 unfolding tick_rows lowest
-tick_none c ram store f = simp (f.exists, f.ram-fits, f.store-fits)
+tick_none c ram store f = simp (f.exists, f.ram_fits, f.store_fits)

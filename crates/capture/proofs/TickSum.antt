@@ -92,6 +92,6 @@ tick_sum c ram store a b = by_number (lowest (tick_rows c ram store)) refl
         let f = tick_fits c ram store h in
         let w = ticks (byte_at store) a (from c ram) in
         let k : Kept (length ram) w = ticks_keep (byte_at store) (length ram) a (from c ram) (record { exists = f.exists; long = refl }) in
-        let again = tick_none w.state w.ram store (record { exists = k.exists; ram_fits = rw k.long f.ram-fits; store_fits = f.store-fits }) in
+        let again = tick_none w.state w.ram store (record { exists = k.exists; ram_fits = rw k.long f.ram_fits; store_fits = f.store_fits }) in
         rw ((tick_refuses c ram store (a + b)).does h, (tick_refuses c ram store a).does h, (tick_refuses w.state w.ram store b).does again)
         (ap (ticked store) (ticks_sum (byte_at store) a b c ram))

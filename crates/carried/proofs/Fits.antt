@@ -93,7 +93,7 @@ module _ (t : Track) (f : Fit t) where
   -- registers that are written
   stored_fit : (regs : List ℕ) → length regs ≡ 54 → Bytes regs → Fit (storing t regs)
   unfolding storing
-  stored_fit regs l b = record { registers = l; taken = f.taken; bytes = b; taken_bytes = f.taken-bytes }
+  stored_fit regs l b = record { registers = l; taken = f.taken; bytes = b; taken_bytes = f.taken_bytes }
 
   set_long : (i v : ℕ) → length (set t.registers i v) ≡ 54
   set_long i v = length-set t.registers i v ∙ f.registers
@@ -202,7 +202,7 @@ now_whole t w n =
     record {
       registers = sym (ap (λ (u : Track). length u.registers) s) ∙ n.fit.registers;
       taken = sym (ap (λ (u : Track). length u.capture.taken) s) ∙ n.fit.taken;
-      elapsed = elapsed_small w.state n.moment.sound.exists (subst (λ (u : Track). Bytes u.capture.taken) s n.fit.taken-bytes);
+      elapsed = elapsed_small w.state n.moment.sound.exists (subst (λ (u : Track). Bytes u.capture.taken) s n.fit.taken_bytes);
       started = n.started;
       ended = n.ended;
     }

@@ -36,7 +36,7 @@ save_small : (s ram store out : List ℕ) → (save_means s ram store out).value
 save_small s ram store out = by_number (lowest (save_rows s ram store out)) refl
   where
     by_number : (n : ℕ) → lowest (save_rows s ram store out) ≡ n → (save_means s ram store out).value < 4294967296
-    by_number zero e = rw ((save_refuses s ram store out).does e) (omega (arith, (ram_lent (length ram) (save_fits s ram store out e).ram-fits).most))
+    by_number zero e = rw ((save_refuses s ram store out).does e) (omega (arith, (ram_lent (length ram) (save_fits s ram store out e).ram_fits).most))
     by_number (suc n) e = rw ((save_refuses s ram store out).kept n e) (omega arith)
 
 pub save_says : (s ram store out : List ℕ) → Says (save_bytes s ram store out).answer (save_means s ram store out).number (save_means s ram store out).value

@@ -96,7 +96,7 @@ module _ (w : World) (image : List ℕ) (fits : Lends w image) where
     -- a write of select
     pub select_leaves : (v : ℕ) → leaves (with_state c) (write image 0x4000 v) ≡ with_state (with_select c (v % 32))
     unfolding on_cartridge byte_written control_written
-    select_leaves v = write_leaves (with_state c) image 0x4000 v exists ∙ rw (fits.ram-fits, fits.store-fits, fits.image-fits)
+    select_leaves v = write_leaves (with_state c) image 0x4000 v exists ∙ rw (fits.ram_fits, fits.store_fits, fits.image_fits)
 
     -- a write of a register above 0
     register_leaves : c.select ≡ 16 → (i v : ℕ) → 0 < i → i < 54 → leaves (with_state c) (write image (0xA000 + i) v) ≡ with_state (with_register c i v)
@@ -106,7 +106,7 @@ module _ (w : World) (image : List ℕ) (fits : Lends w image) where
         let m : a % 128 ≡ i = omega arith in
         let at = written_register c w.ram w.store image a v (le-ltb a 0x8000 (omega arith)) (rw on refl) in
         write_leaves (with_state c) image a v exists
-        ∙ rw (fits.ram-fits, fits.store-fits, fits.image-fits, le-ltb a 0x8000 (omega arith), le-leb 0xA000 a (omega arith), lt-ltb a 0xC000 (omega arith), at, m, ne_eqb i 0 (λ z. omega arith), lt-ltb i 54 high)
+        ∙ rw (fits.ram_fits, fits.store_fits, fits.image_fits, le-ltb a 0x8000 (omega arith), le-leb 0xA000 a (omega arith), lt-ltb a 0xC000 (omega arith), at, m, ne_eqb i 0 (λ z. omega arith), lt-ltb i 54 high)
 
   module _ (c : Controller) (exists : cant_exist c ≡ false) where
     -- one more, after some of them

@@ -81,7 +81,7 @@ module _ (ram store : List ℕ) (cs : List Call) (file : List ℕ) where
       let placed : leaves now (place file) ≡ with_placed now file = placing_leaves ∙ ap (λ (b : Bool). pick b (with_placed now file) now) ok in
       area_stays later _ _ (moment_next _ _ m (place file)) idle left
       ∙ ap (λ (u : World). area_of u.ram) placed
-      ∙ left_area now.ram file (ram_lent (length now.ram) fits.ram-fits).least
+      ∙ left_area now.ram file (ram_lent (length now.ram) fits.ram_fits).least
 
 -- ---- while a capture is held
 
@@ -197,8 +197,8 @@ module _ (c : Controller) (store image : List ℕ) (exists : cant_exist c ≡ fa
 enable_leaves : (w : World) (image : List ℕ) → Lends w image → (c : Controller) → cant_exist c ≡ false → (b : Bool)
     → leaves (record { state = c; ram = w.ram; store = w.store }) (write image 0x0000 (pick b 0x0A 0x00)) ≡ record { state = with_enabled c b; ram = w.ram; store = w.store }
 unfolding on_cartridge byte_written control_written
-enable_leaves w image fits c e true = write_leaves _ image 0x0000 0x0A e ∙ rw (fits.ram-fits, fits.store-fits, fits.image-fits)
-enable_leaves w image fits c e false = write_leaves _ image 0x0000 0x00 e ∙ rw (fits.ram-fits, fits.store-fits, fits.image-fits)
+enable_leaves w image fits c e true = write_leaves _ image 0x0000 0x0A e ∙ rw (fits.ram_fits, fits.store_fits, fits.image_fits)
+enable_leaves w image fits c e false = write_leaves _ image 0x0000 0x00 e ∙ rw (fits.ram_fits, fits.store_fits, fits.image_fits)
 
 module _ (w : World) (image file : List ℕ) where
   abbrev c : Controller
@@ -218,10 +218,10 @@ module _ (w : World) (image file : List ℕ) where
   place_writes_lem ok store_fits image_fits =
       let p = place_fits c w.ram file (sym (place_refuses c w.ram file).numbered ∙ ok) in
       let e : cant_exist c ≡ false = p.exists in
-      let long : 8192 ≤ length w.ram = (ram_lent (length w.ram) p.ram-fits).least in
-      let idle : started c.registers ≡ false = simp (p.none-held, and-true) at (exists_parts c e).holds in
+      let long : 8192 ≤ length w.ram = (ram_lent (length w.ram) p.ram_fits).least in
+      let idle : started c.registers ≡ false = simp (p.none_held, and-true) at (exists_parts c e).holds in
       let s : c.select % 32 ≡ c.select = omega (arith, ltb-false 31 c.select (exists_parts c e).select) in
-      let lends : Lends w image = record { ram_fits = p.ram-fits; store_fits = store_fits; image_fits = image_fits } in
+      let lends : Lends w image = record { ram_fits = p.ram_fits; store_fits = store_fits; image_fits = image_fits } in
       let off : List Call = write image 0x0000 (pick c.enabled 0x0A 0x00) ∷ [] in
       let back : List Call = write image 0x4000 c.select ∷ off in
       let bytes : List Call = writes_from image 0x100 f 3584 in
@@ -233,13 +233,13 @@ module _ (w : World) (image file : List ℕ) where
       let c₃ : Controller = with_select c₂ (c.select % 32) in
       let e₃ : cant_exist c₃ ≡ false = exists_select c₂ e₂ c.select in
       let w' : World = record { state = c₂; ram = stored_ram; store = w.store } in
-      let lends' : Lends w' image = record { ram_fits = rw (stored_length w.ram 0x100 f 3584) p.ram-fits; store_fits = store_fits; image_fits = image_fits } in
+      let lends' : Lends w' image = record { ram_fits = rw (stored_length w.ram 0x100 f 3584) p.ram_fits; store_fits = store_fits; image_fits = image_fits } in
       ap (λ (u : World). after u first) (enable_leaves w image lends c e true)
       ∙ ap (λ (u : World). after u (bytes ++ back)) (select_leaves w image lends c₁ e₁ 0x00)
       ∙ after_append bytes back (with_state w image lends c₂)
-      ∙ ap (λ (u : World). after u back) (bytes_leave c₂ w.store image e₂ refl refl idle store_fits image_fits w.ram p.ram-fits 0x100 f 3584 (omega arith))
+      ∙ ap (λ (u : World). after u back) (bytes_leave c₂ w.store image e₂ refl refl idle store_fits image_fits w.ram p.ram_fits 0x100 f 3584 (omega arith))
       ∙ ap (λ (u : World). after u off) (select_leaves w' image lends' c₂ e₂ c.select)
       ∙ enable_leaves w' image lends' c₃ e₃ c.enabled
       ∙ ap (λ (x : ℕ). with_state w' image lends' (with_enabled (with_select c₂ x) c.enabled)) s
       ∙ ap (λ (r : List ℕ). record { state = c; ram = r; store = w.store }) (stored_placed w.ram file long)
-      ∙ sym (place_leaves w file e ∙ rw (p.ram-fits, p.file-fits, p.none-held))
+      ∙ sym (place_leaves w file e ∙ rw (p.ram_fits, p.file_fits, p.none_held))

@@ -86,7 +86,7 @@ module _ (b : ℕ) (s : List ℕ) (i : Sound s) where
       (λ z.
       either (is_white b)
       (λ w.
-      let a = i.in-gap ps (good_rest c ps k) (good_gap c ps z k) (simp (z, w) at h) in
+      let a = i.in_gap_lem ps (good_rest c ps k) (good_gap c ps z k) (simp (z, w) at h) in
       rw (eqb-true c 0 z, a.same) (gap (b ∷ a.g) ps a.r (white b a.g w a.is) a.text))
       (λ w. absurd (no_more s ps refl (simp (z, w) at h))))
       (λ z.
@@ -114,12 +114,12 @@ module _ (b : ℕ) (s : List ℕ) (i : Sound s) where
   gap_more (c ∷ ps) k o h =
       either (is_white b)
       (λ w.
-      let a = i.in-gap (c ∷ ps) k o (simp w at h) in
+      let a = i.in_gap_lem (c ∷ ps) k o (simp w at h) in
       record { g = b ∷ a.g; r = a.r; same = ap (λ (l : List ℕ). b ∷ l) a.same; is = space b a.g w a.is; text = a.text })
       (λ w.
       either (eqb b 0x23)
       (λ e.
-      let d = i.in-comment (c ∷ ps) k o (simp (w, e) at h) in
+      let d = i.in_comment_lem (c ∷ ps) k o (simp (w, e) at h) in
       let a = d.after in
       record {
         g = 0x23 ∷ (d.t ++ a.g);
@@ -137,7 +137,7 @@ module _ (b : ℕ) (s : List ℕ) (i : Sound s) where
         r = b ∷ s;
         same = refl;
         is = nothing;
-        text = rw (eqb-true b c f) (byte c ps s p.byte-on (i.plain ps (good_rest c ps k) (simp (w, e, f) at h)));
+        text = rw (eqb-true b c f) (byte c ps s p.byte_on (i.plain ps (good_rest c ps k) (simp (w, e, f) at h)));
       })
       (λ f. absurd (no_more s (c ∷ ps) refl (simp (w, e, f) at h)))))
 
@@ -146,9 +146,9 @@ module _ (b : ℕ) (s : List ℕ) (i : Sound s) where
   comment_more [] k o h = absurd (no_more s [] refl h)
   comment_more (c ∷ ps) k o h =
       either (is_end b)
-      (λ e. record { t = b ∷ []; r = s; same = refl; is = last b e; after = i.in-gap (c ∷ ps) k o (simp e at h) })
+      (λ e. record { t = b ∷ []; r = s; same = refl; is = last b e; after = i.in_gap_lem (c ∷ ps) k o (simp e at h) })
       (λ e.
-      let d = i.in-comment (c ∷ ps) k o (simp e at h) in
+      let d = i.in_comment_lem (c ∷ ps) k o (simp e at h) in
       record { t = b ∷ d.t; r = d.r; same = ap (λ (l : List ℕ). b ∷ l) d.same; is = more b d.t e d.is; after = d.after })
 
 plain_none : (ps : List ℕ) → reads [] (left 0 ps) ≡ true → Text ps []
@@ -212,12 +212,12 @@ opens_read s [] o h = absurd (false≢true o)
 opens_read [] (c ∷ ps) o h = absurd (false≢true h)
 opens_read (b ∷ s) (c ∷ ps) o h =
     let p = opened c ps o in
-    let z : eqb c 0 ≡ false = ne_eqb c 0 (λ e. omega (arith, p.byte-on)) in
-    let f : eqb c 1 ≡ false = ne_eqb c 1 (λ e. omega (arith, p.byte-on)) in
+    let z : eqb c 0 ≡ false = ne_eqb c 0 (λ e. omega (arith, p.byte_on)) in
+    let f : eqb c 1 ≡ false = ne_eqb c 1 (λ e. omega (arith, p.byte_on)) in
     either (eqb b c)
     (λ e.
     let q : b ≡ c = eqb-true b c e in
-    simp (ap is_white q ∙ p.no-white, ap (λ (n : ℕ). eqb n 0x23) q ∙ p.no-hash, e) (simp (z, f, e) at h))
+    simp (ap is_white q ∙ p.no_white, ap (λ (n : ℕ). eqb n 0x23) q ∙ p.no_hash, e) (simp (z, f, e) at h))
     (λ e. absurd (no_more s ps refl (simp (z, f, e) at h)))
 
 among_read : {g : List ℕ} → Among g → (c : ℕ) (ps s : List ℕ) → reads s (left 1 (c ∷ ps)) ≡ true → reads (g ++ s) (left 1 (c ∷ ps)) ≡ true

@@ -117,21 +117,21 @@ restore_fits file s ram store e =
 -- each part has its place, and is put there
 module _ (file s ram store : List ℕ) (fit : RestoreFits file s ram store) where
   abbrev size : Sized file
-  size = (save_parts file fit.file-fits).size
+  size = (save_parts file fit.file_fits).size
 
   pub state_room : 0 + length (take 121 (drop 7 file)) ≤ length s
-  state_room = omega (arith, fit.state-fits, part_long file 7 121 (omega (arith, size.long)))
+  state_room = omega (arith, fit.state_fits, part_long file 7 121 (omega (arith, size.long)))
 
   pub ram_inside : 128 + length ram ≤ length file
-  ram_inside = omega (arith, size.long, fit.ram-fits)
+  ram_inside = omega (arith, size.long, fit.ram_fits)
 
   pub store_inside : 128 + length ram + 16384 ≤ length file
-  store_inside = omega (arith, size.long, fit.ram-fits)
+  store_inside = omega (arith, size.long, fit.ram_fits)
 
   pub store_room : 0 + length (take (128 + length ram + 16384 - (128 + length ram)) (drop (128 + length ram) file)) ≤ length store
   store_room =
       let n = 128 + length ram in
-      omega (arith, fit.store-fits, part_long file n (n + 16384 - n) (omega (arith, store_inside)))
+      omega (arith, fit.store_fits, part_long file n (n + 16384 - n) (omega (arith, store_inside)))
 
   pub restore_done : (s' ram' store' : List ℕ)
       → s' ≡ take 121 (drop 7 file) ++ drop (0 + length (take 121 (drop 7 file))) s
@@ -141,7 +141,7 @@ module _ (file s ram store : List ℕ) (fit : RestoreFits file s ram store) wher
   restore_done s' ram' store' p q r =
       let n = 128 + length ram in
       let long = size.long in
-      let a = taken file s 7 121 121 (omega arith) (omega (arith, long)) fit.state-fits p in
-      let b = taken file ram 128 (n - 128) (ram_length_in file) (omega (arith, fit.ram-fits)) (omega (arith, long)) fit.ram-fits q in
-      let o = taken file store n (n + 16384 - n) 16384 (omega arith) (omega (arith, store_inside)) fit.store-fits r in
-      (λ i. restored 0 (a i) (b i) (o i)) ∙ ap (λ (k : ℕ). restored 0 (state_in file) (ram_in file) (take 16384 (drop (128 + k) file))) fit.ram-fits
+      let a = taken file s 7 121 121 (omega arith) (omega (arith, long)) fit.state_fits p in
+      let b = taken file ram 128 (n - 128) (ram_length_in file) (omega (arith, fit.ram_fits)) (omega (arith, long)) fit.ram_fits q in
+      let o = taken file store n (n + 16384 - n) 16384 (omega arith) (omega (arith, store_inside)) fit.store_fits r in
+      (λ i. restored 0 (a i) (b i) (o i)) ∙ ap (λ (k : ℕ). restored 0 (state_in file) (ram_in file) (take 16384 (drop (128 + k) file))) fit.ram_fits

@@ -97,10 +97,10 @@ magic_bytes (suc (suc (suc (suc (suc (suc i)))))) = omega arith
 
 module _ (s ram store : List ℕ) (can : Allowed s ram store) where
   state_size : length s ≡ 121
-  state_size = state_long s can.state-can
+  state_size = state_long s can.state_can
 
   body_size : length (body_of s ram store) ≡ 16512 + length ram
-  body_size = body_length s ram store state_size can.store-can
+  body_size = body_length s ram store state_size can.store_can
 
   pub save_size : length (save_of s ram store) ≡ 16516 + length ram
   unfolding save_of
@@ -115,7 +115,7 @@ module _ (s ram store : List ℕ) (can : Allowed s ram store) where
   -- the RAM's length, by its banks
   length_back : ram_length_in file ≡ length ram
   unfolding save_of body_of magic
-  length_back = let l = ram_lent (length ram) can.ram-can in omega (arith, l.whole)
+  length_back = let l = ram_lent (length ram) can.ram_can in omega (arith, l.whole)
 
   -- from 7 on, from 128 on, and after the RAM
   after_banks : drop 7 file ≡ s ++ (ram ++ (store ++ sum))
@@ -136,7 +136,7 @@ module _ (s ram store : List ℕ) (can : Allowed s ram store) where
 
   pub store_back : store_in file ≡ store
   store_back =
-      ap (λ (n : ℕ). take 16384 (drop (128 + n) file)) length_back ∙ ap (take 16384) after_ram ∙ take_at store sum 16384 can.store-can
+      ap (λ (n : ℕ). take 16384 (drop (128 + n) file)) length_back ∙ ap (take 16384) after_ram ∙ take_at store sum 16384 can.store_can
 
   body_back : body_in file ≡ body_of s ram store
   unfolding save_of
@@ -146,7 +146,7 @@ module _ (s ram store : List ℕ) (can : Allowed s ram store) where
     body_bytes : Bytes (body_of s ram store)
     unfolding body_of
     body_bytes =
-        let few : length ram / 8192 < 256 = let l = ram_lent (length ram) can.ram-can in omega (arith, l.most) in
+        let few : length ram / 8192 < 256 = let l = ram_lent (length ram) can.ram_can in omega (arith, l.most) in
         append_bytes magic (length ram / 8192 ∷ (s ++ (ram ++ store))) magic_bytes
         (cons_bytes (length ram / 8192) (s ++ (ram ++ store)) few (append_bytes s (ram ++ store) bs (append_bytes ram store br bt)))
 
@@ -160,7 +160,7 @@ module _ (s ram store : List ℕ) (can : Allowed s ram store) where
 
     sized_back : is_sized file ≡ true
     unfolding is_sized
-    sized_back = rw (length_back, can.ram-can) (eq-eqb (length file) (16516 + length ram) save_size)
+    sized_back = rw (length_back, can.ram_can) (eq-eqb (length file) (16516 + length ram) save_size)
 
     begins_back : has_magic file ≡ true
     unfolding has_magic each save_of body_of magic
@@ -169,7 +169,7 @@ module _ (s ram store : List ℕ) (can : Allowed s ram store) where
     -- what is written is a save
     pub saved_is : is_save file ≡ true
     unfolding is_save
-    saved_is = rw (sized_back, begins_back, state_back, can.state-can, sum_back)
+    saved_is = rw (sized_back, begins_back, state_back, can.state_can, sum_back)
 
 -- ---- what was read
 
@@ -273,7 +273,7 @@ accepted file b = (
     store_bytes = taken_bytes 16384 (drop (128 + ram_length_in file) file) (dropped_bytes (128 + ram_length_in file) file b);
     same = write_read file is b;
   },
-  λ w. sym (ap is_save w.same) ∙ saved_is w.state w.ram w.store w.can w.state-bytes w.ram-bytes w.store_bytes,
+  λ w. sym (ap is_save w.same) ∙ saved_is w.state w.ram w.store w.can w.state_bytes w.ram_bytes w.store_bytes,
 )
 
 -- Reading what was written gives the same three, whatever stood in what is lent
@@ -285,7 +285,7 @@ read_written s ram store can bs br bt s' ram' store' es er et =
     let is = saved_is s ram store can bs br bt in
     let size = length_back s ram store can in
     (restore_refuses (save_of s ram store) s' ram' store').does
-    (simp (eq-eqb (length s') 121 es, ap ram_allowed er ∙ can.ram-can, is, eq-eqb (length ram') (ram_length_in (save_of s ram store)) (er ∙ sym size), eq-eqb (length store') 16384 et))
+    (simp (eq-eqb (length s') 121 es, ap ram_allowed er ∙ can.ram_can, is, eq-eqb (length ram') (ram_length_in (save_of s ram store)) (er ∙ sym size), eq-eqb (length store') 16384 et))
     ∙ (λ i. restored 0 (state_back s ram store can i) (ram_back s ram store can i) (store_back s ram store can i))
 
 -- Writing what was read gives the same file, in any buffer that has room for it
@@ -295,10 +295,10 @@ unfolding save_rows lowest
 write_restored file s ram store out b e room =
     let r = restore_refuses file s ram store in
     let none : lowest (restore_rows file s ram store) ≡ 0 = sym r.numbered ∙ e in
-    let is = (restore_fits file s ram store none).file-fits in
+    let is = (restore_fits file s ram store none).file_fits in
     let can = parts_can file is in
     let size : save_length (length (ram_in file)) ≡ length file = omega (arith, ram_read_lem file is, long file is) in
     rw (r.does none)
     ((save_refuses (state_in file) (ram_in file) (store_in file) out).does
-    (simp (can.state-can, can.ram-can, eq-eqb (length (store_in file)) 16384 can.store-can, le-ltb (length out) (save_length (length (ram_in file))) (rw size room)))
+    (simp (can.state_can, can.ram_can, eq-eqb (length (store_in file)) 16384 can.store_can, le-ltb (length out) (save_length (length (ram_in file))) (rw size room)))
     ∙ ap₂ (λ (k : ℕ) (l : List ℕ). exported 0 k (l ++ drop k out)) size (write_read file is b))

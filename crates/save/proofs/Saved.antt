@@ -90,8 +90,8 @@ pub record Lengths (s ram store out : List ℕ) : Type 0 where
 
 pub fit_lengths : {s ram store out : List ℕ} → SaveFits s ram store out → Lengths s ram store out
 fit_lengths {s} {ram} {store} {out} f = record {
-  state = state_long s f.state-fits;
-  frame = eqb-true (length store) 16384 f.store-fits;
-  most = (ram_lent (length ram) f.ram-fits).most;
+  state = state_long s f.state_fits;
+  frame = eqb-true (length store) 16384 f.store_fits;
+  most = (ram_lent (length ram) f.ram_fits).most;
   room = f.room;
 }

@@ -155,13 +155,13 @@ ram_bytes = all_bytes_lem 0xFF (omega arith)
 -- Worked cycles: 32,446 + 512 + 16 × 16 are counted, though 500 cycles stood still and more were given than were left
 pub worked_cycles : counted (after (fresh ram store) before) (start ∷ (between ++ (last ∷ []))) ≡ 33214
 unfolding total_of exposure_of
-worked_cycles = cycles ram store before start between last premises.whole ∙ ap total_of premises.regs-at-start
+worked_cycles = cycles ram store before start between last premises.whole ∙ ap total_of premises.regs_at_start
 
 -- Worked picture: the picture of the first image, with the exposure at the start
 pub worked_picture : area_of (after (fresh ram store) calls).ram ≡ picture_of (lit_by image regs) regs
 unfolding image_in
 worked_picture =
-    picture ram store before start between last premises.whole premises.untouched ram_bytes premises.bytes ∙ ap (λ (r : List ℕ). picture_of (lit_by image r) r) premises.regs-at-start
+    picture ram store before start between last premises.whole premises.untouched ram_bytes premises.bytes ∙ ap (λ (r : List ℕ). picture_of (lit_by image r) r) premises.regs_at_start
 
 -- Worked outside: the byte that landed
 pub worked_outside : get_or (after (fresh ram store) calls).ram 0x1000 0 ≡ 0x5A
@@ -175,13 +175,13 @@ of_calls cs s e told = record {
 }
 
 pub worked_counts : Counts 1 1 (after (fresh ram store) calls).state
-worked_counts = of_calls calls 1 1 premises.told-once
+worked_counts = of_calls calls 1 1 premises.told_once
 
 pub worked_again : Counts 2 1 (after (fresh ram store) (calls ++ (start ∷ []))).state
-worked_again = of_calls (calls ++ (start ∷ [])) 2 1 premises.told-again
+worked_again = of_calls (calls ++ (start ∷ [])) 2 1 premises.told_again
 
 pub worked_reset : Counts 0 0 (after (fresh ram store) (calls ++ (reset ∷ []))).state
-worked_reset = of_calls (calls ++ (reset ∷ [])) 0 0 premises.told-reset
+worked_reset = of_calls (calls ++ (reset ∷ [])) 0 0 premises.told_reset
 
 -- Worked placing: at the start the area is the white plate's, though RAM writing was not enabled
 pub worked_placed : area_of (after (fresh ram store) before).ram ≡ area_of white
@@ -209,10 +209,10 @@ module _ (j : ℕ) (most : j < 14336) where
   unfolding image_in
   worked_passed l =
       half_picture ram store before start stopped j most premises.held (premises.unwritten j)
-      ∙ rw (premises.regs-at-start, ran_so_far, cycle_of_lem j, le-leb (2490 + 2 * j) 3000 (omega arith))
+      ∙ rw (premises.regs_at_start, ran_so_far, cycle_of_lem j, le-leb (2490 + 2 * j) 3000 (omega arith))
 
   -- and all the others are what they were
   pub worked_waiting : 256 ≤ j → shade_in (after (fresh ram store) (before ++ (start ∷ stopped))).ram (j % 128) (j / 128) ≡ shade_in (after (fresh ram store) before).ram (j % 128) (j / 128)
   worked_waiting l =
       half_picture ram store before start stopped j most premises.held (premises.unwritten j)
-      ∙ rw (premises.regs-at-start, ran_so_far, cycle_of_lem j, lt-leb (2490 + 2 * j) 3000 (omega arith))
+      ∙ rw (premises.regs_at_start, ran_so_far, cycle_of_lem j, lt-leb (2490 + 2 * j) 3000 (omega arith))

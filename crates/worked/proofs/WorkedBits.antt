@@ -99,10 +99,10 @@ pub record Ways : Type 0 where
 
 pub worked_bits : Ways
 worked_bits = record {
-  pixel_then_write = (by stopped 0x100 ∙ sent.at-the-stop, by calls 0x100 ∙ sent.then-write);
-  write_then_pixel = (by edited 0x104 ∙ sent.write-first, by calls 0x104 ∙ sent.then-low);
-  high_bit = by calls 0x105 ∙ sent.then-high;
-  neighbours = (touched_told ram store calls 0x1EA 4 (λ _. omega arith) ∙ sent.passed, by calls 0x1EA ∙ sent.not-passed ∙ ap (λ (v : ℕ). bit_of v 3) (white_byte 0xEA (omega arith)));
+  pixel_then_write = (by stopped 0x100 ∙ sent.at_the_stop, by calls 0x100 ∙ sent.then_write);
+  write_then_pixel = (by edited 0x104 ∙ sent.write_first, by calls 0x104 ∙ sent.then_low);
+  high_bit = by calls 0x105 ∙ sent.then_high;
+  neighbours = (touched_told ram store calls 0x1EA 4 (λ _. omega arith) ∙ sent.passed, by calls 0x1EA ∙ sent.not_passed ∙ ap (λ (v : ℕ). bit_of v 3) (white_byte 0xEA (omega arith)));
   untouched = (by set_up_lem 0x1EA ∙ sent.not_yet, by calls 0x1000 ∙ sent.never);
 }
   where

@@ -34,7 +34,7 @@ returns c =
 byte-read-requires : tie.Need-byte-read-requires
 byte-read-requires c κs =
     let f = read_fits _ _ _ _ (fits_none _ _ (judged c.before.before.before.before.before) c.before.before.before.enum_told.given.1) in
-    (f.rom-fits, f.ram-fits)
+    (f.rom_fits, f.ram_fits)
 
 returns-2 : tie.Need-returns-2
 returns-2 c =

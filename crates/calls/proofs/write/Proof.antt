@@ -34,7 +34,7 @@ byte-write-requires : tie.Need-byte-write-requires
 byte-write-requires c κs =
     let j = c.before.before.before.before.before in
     let f = write_fits _ _ _ _ _ (fits_none _ _ (judged j) c.before.before.before.enum_told.given.1) in
-    ((start j).requires, f.ram-fits, frame_lent _ f.store-fits, frame_lent _ f.image-fits)
+    ((start j).requires, f.ram_fits, frame_lent _ f.store_fits, frame_lent _ f.image_fits)
 
 returns-2 : tie.Need-returns-2
 returns-2 c =

@@ -42,8 +42,8 @@ run-requires c κs =
     let runs = let_in c.before.before.is-running.ensures c.before.if1.false in (
       runs,
       before_total state (fits e).exists (both_left state.held _ runs),
-      (ram_lent _ (fits e).ram-fits).least,
-      frame_lent _ (fits e).store-fits,
+      (ram_lent _ (fits e).ram_fits).least,
+      frame_lent _ (fits e).store_fits,
     )
 
 returns-3 : tie.Need-returns-3

@@ -21,7 +21,7 @@ returns c = by_why (write_refuses _ _ _ _ _ _) _ (judged c.before.before.before)
 byte-write-requires : tie.Need-byte-write-requires
 byte-write-requires c κs =
     let f = write_fits _ _ _ _ _ (fits_none _ _ (judged c.before.before.before.before) c.before.before.enum_told.given.1) in
-    (f.ram-fits, frame_lent _ f.store-fits, frame_lent _ f.image-fits)
+    (f.ram_fits, frame_lent _ f.store_fits, frame_lent _ f.image_fits)
 
 returns-2 : tie.Need-returns-2
 returns-2 c =

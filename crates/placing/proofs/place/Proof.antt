@@ -25,7 +25,7 @@ fits : (e : tie.After-enum-told) → PlaceFits (start e).args.state (start e).ar
 fits e = place_fits _ _ _ (fits_none _ _ e.before.before.judge-place.ensures e.enum_told.given.1)
 
 long : (e : tie.After-enum-told) → length (start e).args.file.now ≡ 14351
-long e = plate_length _ (fits e).file-fits
+long e = plate_length _ (fits e).file_fits
 
 returns-2 : tie.Need-returns-2
 unfolding placed_in
@@ -51,7 +51,7 @@ place-spec =
     (λ c. omega (arith, long c))
     (λ c. search rules)
     (λ c. search rules)
-    (λ c. omega (arith, (ram_lent _ (fits c.before).ram-fits).least))
-    (λ c κs. ((search rules, search rules), plate_greys _ (fits c.before.before).file-fits))
+    (λ c. omega (arith, (ram_lent _ (fits c.before).ram_fits).least))
+    (λ c κs. ((search rules, search rules), plate_greys _ (fits c.before.before).file_fits))
     (λ c. search rules)
     returns-2)

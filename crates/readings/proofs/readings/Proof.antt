@@ -15,7 +15,7 @@ put-readings-requires : tie.Need-put-readings-requires
 put-readings-requires c κs =
     let t = c.before.before.before in
     let f = readings_fit _ _ _ (fits_none _ _ t.before.before.judge-readings.ensures t.enum_told.given.1) in
-    (frame_lent _ f.store-fits, f.out-fits)
+    (frame_lent _ f.store_fits, f.out_fits)
 
 returns-2 : tie.Need-returns-2
 returns-2 c =

@@ -16,7 +16,7 @@ returns c = by_why (choose_refuses _ _ _ _ _) _ c.before.before.before.judge-cho
 put-choice-requires : tie.Need-put-choice-requires
 put-choice-requires c κs =
     let f = choose_fits _ _ _ (fits_none _ _ c.before.before.before.judge-choice.ensures c.before.enum_told.given.1) in
-    (f.light-fits, f.level-fits)
+    (f.light_fits, f.level_fits)
 
 returns-2 : tie.Need-returns-2
 unfolding with_registers

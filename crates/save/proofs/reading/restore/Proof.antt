@@ -51,7 +51,7 @@ restore-spec =
     (λ c. search rules)
     (λ c. search rules)
     (λ c. search rules)
-    (λ c. omega (arith, (save_parts _ (fits c).file-fits).size.long))
+    (λ c. omega (arith, (save_parts _ (fits c).file_fits).size.long))
     put-requires
     (λ c. search rules)
     (λ c. search rules)
