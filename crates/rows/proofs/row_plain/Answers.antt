@@ -1,0 +1,36 @@
+-- `rows::row_plain` meets its contract: the columns below x are the row's. Assumes nothing.
+use Prim.Native.Nat.{◌-◌}
+use native.Mathlib.Omega.{arith}
+use mathlib.Core.Path.{refl}
+use Rattle.laws.proofs.Filled.{filled_none, filled_more, filled_end}
+use Rattle.rows.proofs.row_plain.Goals as goal
+
+pub loop-x-init : goal.loop-x-init
+loop-x-init c = (omega arith, filled_none _ c.args.out.now (omega arith))
+
+pub overflow_mul-out : goal.overflow_mul-out
+overflow_mul-out c = omega arith
+
+pub overflow_add-out : goal.overflow_add-out
+overflow_add-out c = omega arith
+
+pub bounds-store-row : goal.bounds-store-row
+bounds-store-row c = omega arith
+
+pub bounds-out-x : goal.bounds-out-x
+bounds-out-x c = omega arith
+
+pub overflow_step-x : goal.overflow_step-x
+overflow_step-x c = omega arith
+
+pub loop-x-smaller : goal.loop-x-smaller
+loop-x-smaller c = omega arith
+
+pub loop-x-preserved : goal.loop-x-preserved
+loop-x-preserved c = (omega arith, filled_more _ _ c.loop-x.invariant.1 (omega arith) refl)
+
+pub shape_of-out : goal.shape_of-out
+shape_of-out c = omega arith
+
+pub returns : goal.returns
+returns c = filled_end _ _ c.loop-x.invariant.1 (omega arith)
