@@ -1,0 +1,31 @@
+-- `shades::put_eight` meets its contract: the eight stores are the definition's. Assumes nothing.
+use borrow.Author.Rules.{rules}
+use native.Mathlib.Omega.{arith}
+use lib.ListN.{length-set}
+use Rattle.shades.specs.Aside.{put_eight}
+use Rattle.shades.proofs.put_eight.Goals as goal
+
+pub returns : goal.returns
+unfolding put_eight
+returns c = search rules
+
+pub bounds-out-at-2 : goal.bounds-out-at-2
+bounds-out-at-2 c = simp length-set (omega arith)
+
+pub bounds-out-at-3 : goal.bounds-out-at-3
+bounds-out-at-3 c = simp length-set (omega arith)
+
+pub bounds-out-at-4 : goal.bounds-out-at-4
+bounds-out-at-4 c = simp length-set (omega arith)
+
+pub bounds-out-at-5 : goal.bounds-out-at-5
+bounds-out-at-5 c = simp length-set (omega arith)
+
+pub bounds-out-at-6 : goal.bounds-out-at-6
+bounds-out-at-6 c = simp length-set (omega arith)
+
+pub bounds-out-at-7 : goal.bounds-out-at-7
+bounds-out-at-7 c = simp length-set (omega arith)
+
+pub bounds-out-at-8 : goal.bounds-out-at-8
+bounds-out-at-8 c = simp length-set (omega arith)
