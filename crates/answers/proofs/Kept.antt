@@ -1,6 +1,6 @@
 -- A refused call leaves every byte that it was lent. Assumes nothing.
 use mathlib.Core.Path.{◌≡◌, refl, sym, ap, ◌∙◌}
-use mathlib.Core.Bool.{true, false, not}
+use mathlib.Core.Bool.{true, false}
 use mathlib.Core.List.{List}
 use Prim.Native.Nat.{ℕ, zero, suc, ◌/◌}
 use Rattle.controller.specs.declared.Controller.{Controller}

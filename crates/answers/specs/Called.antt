@@ -1,5 +1,5 @@
 -- What an exported function answers and leaves, in bytes. Assumes nothing.
-use Rattle.std.specs.Prelude.{not, List, ℕ}
+use Rattle.std.specs.Prelude.{List, ℕ}
 use Rattle.controller.specs.declared.Refusal.TheVariants.{State}
 use Rattle.controller.specs.Outcome.{Outcome, number_of}
 use Rattle.shades.specs.Shades.{Exported}
