@@ -119,11 +119,11 @@ first_goes t k cs g =
 pub goes_through : {image taken : List ℕ} {ran : ℕ} (cs : List Call) (t : Track) (w : World) → Moment t w → Of image taken ran t.capture → goes_on t cs ≡ true
     → Of image taken (ran + counted w cs) (follow t cs).capture
 unfolding follow counted
-goes_through {image} {taken} {ran} [] t w m o g = rw (add-zero ran) o
-goes_through {image} {taken} {ran} (k ∷ cs) t w m o g =
+goes_through {image = image} {taken = taken} {ran = ran} [] t w m o g = rw (add-zero ran) o
+goes_through {image = image} {taken = taken} {ran = ran} (k ∷ cs) t w m o g =
     let f = first_goes t k cs g in
     rw (count_next t w m k, ← add_assoc ran (runs_in t k) (counted (leaves w k) cs))
-    (goes_through cs (next t k) (leaves w k) (moment_next t w m k) (goes_next t o k f.0 f.1) f.2)
+    (goes_through {ran = ran + runs_in t k} cs (next t k) (leaves w k) (moment_next t w m k) (goes_next t o k f.0 f.1) f.2)
 
 -- ---- the call in which it ends
 
