@@ -30,6 +30,7 @@ pub enum Frame {
 }
 
 // Whether a byte is a digit. No branch tells digits from letters: which comes next is not to be guessed.
+#[tactic(auto, using(crate::proofs::Digits::outside))]
 fn is_digit(b: u8) -> bool
     ensures { result ≡ is_hex b }
 {
