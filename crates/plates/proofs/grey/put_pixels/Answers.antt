@@ -10,16 +10,11 @@ use Rattle.lighting.specs.Light.{turned}
 use Rattle.tiles.specs.Tiles.{shade_in}
 use Rattle.shades.specs.Aside.{tone_nth}
 use Rattle.plates.specs.Grey.{grey_of, grey_at}
-use borrow.Author.Rules.{rules}
-use Rattle.plates.proofs.grey.put_pixels.Statement.{statement}
-use Rattle.plates.proofs.grey.put_pixels.Tie as tie
+use Rattle.plates.proofs.grey.put_pixels.Goals as goal
 
 tones-greys : (ram : List ℕ) → listed (tone_nth 85 170 true ram) 14336 ≡ listed (grey_at ram) 14336
 unfolding tone_nth turned shade_in grey_at grey_of
 tones-greys ram = listed_ext _ _ 14336 (λ k h. omega arith)
 
-returns : tie.Need-returns
-returns c = c.before.before.put-tones.ensures ∙ tones-greys _
-
-pub put-pixels-spec : {M : Type 1} → statement M
-put-pixels-spec = tie.close (tie.spec (λ c κs. search rules) (λ c. search rules) returns)
+pub returns : goal.returns
+returns c = c.put_tones.ensures ∙ tones-greys _

@@ -1,0 +1,20 @@
+-- `plates::grey::export` meets its contract: it is judged, and then done. Assumes nothing.
+use mathlib.Core.Path.{ap, ◌∙◌}
+use Rattle.timing.proofs.Lent.{ram_lent}
+use Rattle.controller.proofs.Refusals.{by_why, by_fits, fits_none}
+use Rattle.shades.specs.Shades.{exported}
+use Rattle.plates.proofs.Exports.{export_refuses, export_fits}
+use Rattle.plates.proofs.grey.export.Goals as goal
+
+pub returns-in-Refused : goal.returns-in-Refused
+returns-in-Refused c = by_why (export_refuses _ _) _ c.judge_export-verdict.ensures _ c.in-Refused.is
+
+pub put_file-requires : goal.put_file-requires
+put_file-requires c =
+    let f = export_fits _ _ (fits_none _ _ c.judge_export-verdict.ensures c.in_default.is) in
+    ((ram_lent _ f.0).least, f.1)
+
+pub returns : goal.returns
+returns c =
+    ap (exported 0 14351) c.put_file.ensures
+    ∙ by_fits (export_refuses _ _) _ c.judge_export-verdict.ensures c.in_default.is
