@@ -4,6 +4,7 @@ ghost use Rattle.std.specs.Prelude.{◌<◌};
 use super::print::{bytes, digit, long, number, text};
 use controller::{Controller, TickAnswer};
 use lighting::Setting;
+use std::io;
 
 // The matrix of document 001, 2.2.6, set 1 (high light), default contrast, behind six registers that are 0.
 const DEFAULT: [u8; 54] = [
@@ -106,49 +107,47 @@ fn wide(x: u8) -> u64
 // Bytes as one number, the first the highest, modulo the largest prime below 2^32.
 fn sum(s: &[u8]) -> u64 {
     let mut n: u64 = 0;
-    let mut i = 0;
-    while i < s.len() {
-        n = (n * 256 + wide(s[i])) % 4294967291;
-        i += 1;
+    for b in s {
+        n = (n * 256 + wide(*b)) % 4294967291;
     }
     n
 }
 
 // What the area holds: its 3,584 bytes as one number, and its first tile.
-fn area(ram: &[u8; 8192]) {
+fn area(rt: &impl Print, ram: &[u8; 8192]) -> io::Result<()> {
     let all = &ram[..];
-    text(b", sum ");
-    long(sum(&all[0x100..0xF00]));
-    text(b", first tile");
-    bytes(&all[0x100..0x110]);
-    text(b"\n");
+    text(rt, b", sum ")?;
+    long(rt, sum(&all[0x100..0xF00]))?;
+    text(rt, b", first tile")?;
+    bytes(rt, &all[0x100..0x110])?;
+    text(rt, b"\n")
 }
 
 // One capture: its mode and registers, its cycles, and what it left in a RAM of bytes FF.
-fn mode(first: &[u8; 6], image: &[u8; 16384]) {
+fn mode(rt: &impl Print, first: &[u8; 6], image: &[u8; 16384]) -> io::Result<()> {
     let mut ram = [0xFFu8; 8192];
     let mut store = [0u8; 16384];
     let regs = registers(first);
     let set = Setting::of(&regs);
     let cycles = capture(&mut ram, &mut store, image, &regs);
-    text(b"mode ");
-    text(&[digit(set.mode)]);
-    text(b": A000-A005");
-    bytes(first);
-    text(b", ");
-    number(cycles as u64);
-    text(b" cycles");
-    area(&ram);
+    text(rt, b"mode ")?;
+    text(rt, &[digit(set.mode)])?;
+    text(rt, b": A000-A005")?;
+    bytes(rt, first)?;
+    text(rt, b", ")?;
+    number(rt, u64::from(cycles))?;
+    text(rt, b" cycles")?;
+    area(rt, &ram)
 }
 
 // Between them: -P, P and P - s in step 5, inversion, five ratios, and gain, Vref and A005 bits that count for nothing.
-pub(crate) fn modes() {
+pub(crate) fn modes(rt: &impl Print) -> io::Result<()> {
     let image = image();
-    mode(&[0x01, 0x00, 0x01, 0x40, 0x08, 0x00], &image);
-    mode(&[0x03, 0x20, 0x01, 0x40, 0x10, 0x00], &image);
-    mode(&[0x05, 0x20, 0x01, 0x00, 0xB0, 0x00], &image);
-    mode(&[0x03, 0xC0, 0x01, 0x40, 0x20, 0x00], &image);
-    mode(&[0x03, 0xC4, 0x00, 0xC0, 0xC0, 0xBF], &image);
-    mode(&[0x03, 0xE4, 0x01, 0x40, 0x07, 0xBF], &image);
-    mode(&[0x07, 0xE8, 0x01, 0x20, 0x9F, 0x3F], &image);
+    mode(rt, &[0x01, 0x00, 0x01, 0x40, 0x08, 0x00], &image)?;
+    mode(rt, &[0x03, 0x20, 0x01, 0x40, 0x10, 0x00], &image)?;
+    mode(rt, &[0x05, 0x20, 0x01, 0x00, 0xB0, 0x00], &image)?;
+    mode(rt, &[0x03, 0xC0, 0x01, 0x40, 0x20, 0x00], &image)?;
+    mode(rt, &[0x03, 0xC4, 0x00, 0xC0, 0xC0, 0xBF], &image)?;
+    mode(rt, &[0x03, 0xE4, 0x01, 0x40, 0x07, 0xBF], &image)?;
+    mode(rt, &[0x07, 0xE8, 0x01, 0x20, 0x9F, 0x3F], &image)
 }

@@ -6,21 +6,22 @@ mod print;
 mod shades;
 
 use print::{number, text, word};
+use std::io;
 
 // Step 2: a value times exposure / 256, at most 255.
-fn exposed(v: u8, exposure: u16) {
-    text(b"step 2: ");
-    number(v as u64);
-    text(b" at ");
-    word(exposure);
-    text(b"h gives ");
-    number(lighting::expose(exposure, v) as u64);
-    text(b"\n");
+fn exposed(rt: &impl Print, v: u8, exposure: u16) -> io::Result<()> {
+    text(rt, b"step 2: ")?;
+    number(rt, u64::from(v))?;
+    text(rt, b" at ")?;
+    word(rt, exposure)?;
+    text(rt, b"h gives ")?;
+    number(rt, u64::from(lighting::expose(exposure, v)))?;
+    text(rt, b"\n")
 }
 
-fn main() {
-    exposed(207, 0x0030);
-    exposed(128, 0x0200);
-    shades::examples();
-    captures::modes();
+fn main(rt: HostRuntime) -> io::Result<()> {
+    exposed(&rt, 207, 0x0030)?;
+    exposed(&rt, 128, 0x0200)?;
+    shades::examples(&rt)?;
+    captures::modes(&rt)
 }
