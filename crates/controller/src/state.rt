@@ -92,6 +92,7 @@ fn holds_nothing(elapsed: Cycles, taken: &[u8]) -> bool
 }
 
 // Whether a record can exist, by all that is asked of it: ROM bank, select, register 0, the capture held.
+#[tactic(auto, using(crate::proofs::Records::held_only, crate::proofs::Records::none_only), unfolding(crate::specs::State::cant_exist))]
 pub fn can_exist(bank: u8, select: u8, first: u8, held: bool, elapsed: Cycles, taken: &[u8]) -> bool
     requires { length taken.now ≡ 54 }
     ensures { result ≡ can_exist (seen bank select first held elapsed taken.now) }
