@@ -1,12 +1,12 @@
 -- The area filled row by row of the picture: two bytes a turn, which stand apart. Assumes nothing.
 use mathlib.Core.Path.{◌≡◌, sym, ap₂, ◌∙◌}
 use mathlib.Core.List.{List}
-use Prim.Native.Nat.{ℕ, ◌+◌, ◌-◌, ◌*◌, ◌/◌, ◌%◌, ◌<◌, ◌≤◌}
+use Prim.Native.Nat.{ℕ, ◌+◌, ◌*◌, ◌/◌, ◌%◌, ◌<◌}
 use native.Mathlib.Omega.{arith}
 use lib.ListN.{length, get_or, set, length-set}
 use lib.Seq.{get_or-set_same, get_or-set_other}
 use Rattle.laws.specs.Lists.{listed}
-use Rattle.laws.proofs.Filled.{Filled, filled_all}
+use Rattle.laws.proofs.Filled.{filled_all}
 use Rattle.laws.proofs.Order.{split}
 use Rattle.placing.specs.Placing.{placed_byte}
 use Rattle.placing.specs.Aside.{lows_at, highs_at}

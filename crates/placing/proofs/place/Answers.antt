@@ -1,0 +1,44 @@
+-- `placing::place` meets its contract: it is judged, and then done. Assumes nothing.
+use borrow.Author.Rules.{rules}
+use mathlib.Core.Path.{ap, ap₂, ◌∙◌}
+use mathlib.Core.List.{List, [], ◌++◌}
+use Prim.Native.Nat.{ℕ}
+use native.Mathlib.Omega.{arith}
+use lib.ListN.{take}
+use lib.Seq.{drop-drop}
+use Rattle.controller.specs.Outcome.{outcome}
+use Rattle.timing.proofs.Lent.{ram_lent}
+use Rattle.controller.proofs.Refusals.{by_why, by_fits, fits_none}
+use Rattle.placing.specs.Placing.{placed_area, placed_in}
+use Rattle.placing.proofs.Placed.{place_refuses, place_fits, plate_length, plate_greys, pixels_whole}
+use Rattle.placing.proofs.place.Goals as goal
+
+pub returns-in-Refused : goal.returns-in-Refused
+returns-in-Refused c = by_why (place_refuses _ _ _) _ c.judge_place-verdict.ensures _ c.in-Refused.is
+
+pub slice_bounds-put_area-end : goal.slice_bounds-put_area-end
+slice_bounds-put_area-end c =
+    let a = c.args in
+    let f = place_fits a.state a.ram.now a.file.now (fits_none _ _ c.judge_place-verdict.ensures c.in_default.is) in
+    omega (arith, plate_length _ f.file_fits)
+
+pub slice_bounds-put_area-end-2 : goal.slice_bounds-put_area-end-2
+slice_bounds-put_area-end-2 c =
+    let a = c.args in
+    let f = place_fits a.state a.ram.now a.file.now (fits_none _ _ c.judge_place-verdict.ensures c.in_default.is) in
+    omega (arith, (ram_lent _ f.ram_fits).least)
+
+pub put_area-requires : goal.put_area-requires
+put_area-requires c =
+    let a = c.args in
+    let f = place_fits a.state a.ram.now a.file.now (fits_none _ _ c.judge_place-verdict.ensures c.in_default.is) in
+    record { pixels_len = (search rules, search rules); pixels_value = plate_greys _ f.file_fits }
+
+pub returns : goal.returns
+unfolding placed_in
+returns c =
+    let a = c.args in
+    let ram = a.ram.now in
+    let f = place_fits a.state ram a.file.now (fits_none _ _ c.judge_place-verdict.ensures c.in_default.is) in
+    ap₂ (λ (l r : List ℕ). outcome 0 0 a.state (take 0x100 ram ++ (l ++ r)) []) (c.put_area.ensures ∙ ap placed_area (pixels_whole a.file.now (plate_length _ f.file_fits))) (drop-drop 3584 0x100 ram)
+    ∙ by_fits (place_refuses _ _ _) _ c.judge_place-verdict.ensures c.in_default.is
