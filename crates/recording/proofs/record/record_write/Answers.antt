@@ -3,19 +3,14 @@ use mathlib.Core.Path.{ap, ◌∙◌}
 use mathlib.Core.Bool.{false}
 use mathlib.Core.List.{◌++◌}
 use native.Mathlib.Omega.{arith}
-use borrow.Author.Rules.{rules}
 use Rattle.lines.specs.Hex.{hex_text}
 use Rattle.recording.specs.Record.{line_of, cant_say, line_means, record_means}
 use Rattle.recording.proofs.Written.{write_digits}
-use Rattle.recording.proofs.record.record_write.Statement.{statement}
-use Rattle.recording.proofs.record.record_write.Tie as tie
+use Rattle.recording.proofs.record.record_write.Goals as goal
 
-returns : tie.Need-returns
+pub returns : goal.returns
 unfolding record_means line_of cant_say
 returns c =
-    let a = c.before.before.before.before.before.args in
-    c.before.before.record-digits.ensures
+    let a = c.args in
+    c.record_digits.ensures
     ∙ ap (λ t. line_means false (hex_text 2 2 ++ t) a.out.now) (write_digits a.address a.value (omega arith))
-
-pub record-write-spec : {M : Type 1} → statement M
-record-write-spec = tie.close (tie.spec (λ c. search rules) (λ c. search rules) (λ c κs. search rules) (λ c. search rules) returns)

@@ -1,0 +1,34 @@
+-- `recording::record::record_digits` meets its contract: it is judged, and then put. Assumes nothing.
+use mathlib.Core.Path.{sym, ap, ◌∙◌}
+use mathlib.Core.Bool.{false}
+use Prim.Native.Nat.{◌+◌}
+use native.Mathlib.Nat.{zero-add}
+use native.Mathlib.Omega.{arith}
+use Rattle.controller.proofs.Refusals.{by_why, by_fits, fits_none}
+use Rattle.lines.specs.Hex.{placed}
+use Rattle.recording.specs.Record.{recording}
+use Rattle.recording.proofs.Written.{line_refuses, line_fits, numbers, ended_printed, length_digits, digits_judged}
+use Rattle.recording.proofs.record.record_digits.Goals as goal
+
+pub returns-in-Refused : goal.returns-in-Refused
+returns-in-Refused c =
+    let m = c in
+    let a = m.args in
+    by_why (line_refuses false (numbers a.kind a.digits a.value) a.out.now) _ (digits_judged a.kind a.digits a.value a.out.now m.no_room-verdict.ensures) _ c.in-Refused.is
+
+pub put_line-requires : goal.put_line-requires
+put_line-requires c =
+    let e = c in
+    let a = e.args in
+    let f = line_fits false (numbers a.kind a.digits a.value) a.out.now (fits_none _ _ (digits_judged a.kind a.digits a.value a.out.now e.no_room-verdict.ensures) e.in_default.is) in
+    omega (arith, f.room, length_digits a.kind a.digits a.value)
+
+pub returns : goal.returns
+returns c =
+    let e = c in
+    let a = e.args in
+    let p = c.put_line.ensures in
+    let n = p.1 ∙ zero-add (3 + a.digits) ∙ sym (length_digits a.kind a.digits a.value) in
+    let o = p.0 ∙ ap (placed a.out.now 0) (sym (ended_printed a.kind a.digits a.value)) in
+    (λ i. recording 0 (n i) (o i))
+    ∙ by_fits (line_refuses false (numbers a.kind a.digits a.value) a.out.now) _ (digits_judged a.kind a.digits a.value a.out.now e.no_room-verdict.ensures) e.in_default.is
