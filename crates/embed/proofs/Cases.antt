@@ -15,7 +15,7 @@ use Rattle.tiles.specs.Tiles.{Bytes}
 use Rattle.controller.specs.Outcome.{Outcome, outcome, number_of, write_number, write_outcome, inspection}
 use Rattle.cartridge.specs.Calls.{read_means, write_means}
 use Rattle.capture.specs.Calls.{tick_means}
-use Rattle.controller.specs.Inspect.{inspect_means, named}
+use Rattle.controller.specs.Inspect.{inspect_means}
 use Rattle.desk.specs.declared.choice.Exposure.{Exposure}
 use Rattle.desk.specs.Choice.{choose_means}
 use Rattle.desk.proofs.Choices.{choose_refuses}

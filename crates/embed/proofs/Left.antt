@@ -1,7 +1,7 @@
 -- What a call leaves as bytes is a record and reads back as what it left; so a tick that is broken off and picked up from the bytes is
 -- the tick at once. Assumes nothing.
 use mathlib.Core.Path.{◌≡◌, refl, ap, ◌∙◌}
-use mathlib.Core.Bool.{Bool, true, not}
+use mathlib.Core.Bool.{Bool, true}
 use mathlib.Core.List.{List}
 use Prim.Native.Nat.{ℕ, zero, suc, ◌+◌, ◌<◌}
 use native.Mathlib.Omega.{arith}
@@ -16,7 +16,6 @@ use Rattle.desk.proofs.Choices.{choose_refuses}
 use Rattle.layout.specs.Layout.{encoded, is_record, decoded}
 use Rattle.answers.specs.Packed.{packed}
 use Rattle.layout.proofs.Inverse.{Whole, encoded_record, decode_encode}
-use Rattle.capture.specs.Capture.{from}
 use Rattle.capture.proofs.TickSum.{again, after, tick_sum}
 use Rattle.desk.proofs.Level.{chosen_length}
 use Rattle.calls.proofs.Left.{decoded_whole, same_sizes, write_whole, tick_whole}

@@ -5,7 +5,7 @@ use Prim.Native.Nat.{ℕ, zero, suc, ◌/◌, ◌<◌}
 use lib.ListN.{length}
 use native.Mathlib.Omega.{arith}
 use Rattle.controller.specs.declared.WriteAnswer.{WriteAnswer}
-use Rattle.controller.specs.Outcome.{write_number, refusal}
+use Rattle.controller.specs.Outcome.{write_number}
 use Rattle.controller.specs.Table.{lowest}
 use Rattle.shades.specs.declared.Output.{Output}
 use Rattle.shades.specs.Shades.{exported, output_number, output_value}
