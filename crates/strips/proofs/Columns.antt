@@ -14,7 +14,7 @@ use Rattle.laws.specs.Lists.{listed, packed}
 use Rattle.laws.proofs.Order.{split}
 use Rattle.laws.proofs.Packed.{packed_ext, listed_length, listed_at, listed_ext}
 use Rattle.laws.proofs.Filled.{Filled, filled_all, filled_more}
-use Rattle.sensor.specs.Shade.{shade_by, element, shade_of}
+use Rattle.sensor.specs.Shade.{element, shade_of}
 use Rattle.strips.specs.Aside.{column_of, threshold_at, spread_of, turned_shade, place_of, bits_of, low_bits, high_bits, low_of, high_of}
 
 -- ---- one column: the tests that a shade is made of, made of its bits

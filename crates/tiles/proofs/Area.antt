@@ -1,12 +1,11 @@
 -- The picture's area of the RAM, 0100h to 0EFFh: its bytes are settled by the shades that it shows. Assumes nothing.
 use mathlib.Core.Path.{◌≡◌, refl, sym, ap, ap₂, ◌∙◌}
-use mathlib.Core.Bool.{Bool}
 use mathlib.Core.List.{List}
-use Prim.Native.Nat.{ℕ, zero, suc, ◌+◌, ◌-◌, ◌*◌, ◌/◌, ◌%◌, ◌<◌, ◌≤◌}
+use Prim.Native.Nat.{ℕ, ◌+◌, ◌-◌, ◌*◌, ◌/◌, ◌%◌, ◌<◌, ◌≤◌}
 use native.Mathlib.Nat.{div-div-eq-div-mul}
 use native.Mathlib.Omega.{arith}
 use lib.Dec.{eqb}
-use lib.ListN.{length, get_or, take, drop, length-take, length-drop}
+use lib.ListN.{length, get_or, drop, length-take, length-drop}
 use lib.Seq.{get_or-take, get_or-drop}
 use borrow.Author.Tests.{eq-eqb, ne_eqb}
 use Rattle.laws.specs.Pick.{pick}
@@ -19,7 +18,7 @@ use Rattle.tiles.specs.Tiles.{place, shade_in, area_of, Bytes}
 use Rattle.laws.specs.Lists.{listed, packed}
 use Rattle.tiles.specs.Picture.{picture_shade, low_byte, high_byte, picture_byte, picture_of}
 use Rattle.tiles.specs.Aside.{pixels}
-use Rattle.laws.proofs.Packed.{packed_ext, packed_of, listed_length, listed_at, listed_ext, listed_of}
+use Rattle.laws.proofs.Packed.{packed_ext, packed_of, listed_ext, listed_of}
 use Rattle.tiles.proofs.Pixels.{pixels_length, pixels_bytes, pixels_passed}
 
 -- the tile column and the row of the picture that byte i of the area is of

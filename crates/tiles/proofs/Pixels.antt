@@ -1,12 +1,12 @@
 -- What putting pixels does to the RAM, pixel by pixel and byte by byte. Assumes nothing.
-use mathlib.Core.Path.{◌≡◌, refl, sym, ap, ◌∙◌}
+use mathlib.Core.Path.{◌≡◌, refl, ap, ◌∙◌}
 use mathlib.Core.List.{List}
 use Prim.Native.Nat.{ℕ, zero, suc, ◌+◌, ◌-◌, ◌*◌, ◌/◌, ◌%◌, ◌<◌, ◌≤◌}
 use native.Mathlib.Omega.{arith}
 use lib.ListN.{length, get_or, set, length-set}
 use lib.Seq.{get_or-set_same, get_or-set_other}
-use borrow.Author.Tests.{le-leb, lt-leb}
-use Rattle.laws.specs.Bits.{bit_of, put_bit}
+use borrow.Author.Tests.{lt-leb}
+use Rattle.laws.specs.Bits.{put_bit}
 use Rattle.laws.proofs.Order.{split}
 use Rattle.laws.proofs.BitLaws.{put_bit_same, put_bit_other, put_byte}
 use Rattle.sensor.specs.declared.Pixel.{Pixel}

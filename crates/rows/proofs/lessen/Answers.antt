@@ -1,6 +1,5 @@
 -- `rows::lessen` meets its contract: the columns below x are done in both rows, the others as they were. Assumes nothing.
 use mathlib.Core.Path.{sym, ap₂, ◌∙◌}
-use Prim.Native.Nat.{◌-◌}
 use native.Mathlib.Omega.{arith}
 use Rattle.laws.proofs.Packed.{listed_of}
 use Rattle.laws.proofs.Filled.{filled_none, filled_more, filled_end}

@@ -1,6 +1,5 @@
 -- `rows::negate` meets its contract: the columns below x are the negative's, the others as they were. Assumes nothing.
 use mathlib.Core.Path.{ap, ◌∙◌}
-use Prim.Native.Nat.{◌-◌}
 use native.Mathlib.Omega.{arith}
 use Rattle.laws.proofs.Filled.{filled_none, filled_more, filled_end}
 use Rattle.rows.specs.Aside.{less_of}

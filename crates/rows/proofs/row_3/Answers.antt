@@ -1,5 +1,4 @@
 -- `rows::row_3` meets its contract: the columns below x are the row's. Assumes nothing.
-use Prim.Native.Nat.{◌-◌}
 use native.Mathlib.Omega.{arith}
 use lib.ListN.{length-set}
 use Rattle.filters.specs.Edge.{edge_of}

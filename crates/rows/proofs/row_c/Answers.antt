@@ -1,5 +1,4 @@
 -- `rows::row_c` meets its contract: the columns below x are the row's. Assumes nothing.
-use Prim.Native.Nat.{◌-◌}
 use native.Mathlib.Omega.{arith}
 use Rattle.filters.specs.Edge.{edge_of}
 use Rattle.laws.proofs.Filled.{filled_none, filled_end}

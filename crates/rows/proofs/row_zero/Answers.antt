@@ -1,5 +1,4 @@
 -- `rows::row_zero` meets its contract: the columns below x are the row's. Assumes nothing.
-use Prim.Native.Nat.{◌-◌}
 use native.Mathlib.Omega.{arith}
 use mathlib.Core.Path.{refl}
 use Rattle.laws.proofs.Filled.{filled_none, filled_more, filled_end}

@@ -1,5 +1,4 @@
 -- `strips::add_column` meets its contract: the tiles below t have a bit more. Assumes nothing.
-use Prim.Native.Nat.{◌-◌}
 use native.Mathlib.Omega.{arith}
 use Rattle.strips.specs.Aside.{turned_shade}
 use Rattle.strips.proofs.Columns.{moved_none, moved_end, low_room, high_room, low_next, high_next}

@@ -1,6 +1,6 @@
 -- `strips::interleave` meets its contract: the places below 2 i are written. Assumes nothing.
 use mathlib.Core.Path.{◌≡◌}
-use Prim.Native.Nat.{◌+◌, ◌-◌, ◌*◌, ◌/◌, ◌%◌}
+use Prim.Native.Nat.{◌+◌, ◌*◌, ◌/◌, ◌%◌}
 use native.Mathlib.Omega.{arith}
 use Rattle.laws.proofs.Filled.{filled_none, filled_more, filled_to, filled_end}
 use Rattle.strips.proofs.interleave.Goals as goal

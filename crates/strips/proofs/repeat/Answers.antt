@@ -1,6 +1,6 @@
 -- `strips::repeat` meets its contract: the places below 16 b + t are written. Assumes nothing.
 use mathlib.Core.Path.{◌≡◌}
-use Prim.Native.Nat.{◌+◌, ◌-◌, ◌*◌, ◌/◌}
+use Prim.Native.Nat.{◌+◌, ◌*◌, ◌/◌}
 use native.Mathlib.Omega.{arith}
 use Rattle.laws.proofs.Filled.{filled_none, filled_more, filled_to, filled_end}
 use Rattle.strips.proofs.repeat.Goals as goal

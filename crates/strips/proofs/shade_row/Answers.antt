@@ -1,6 +1,6 @@
 -- `strips::shade_row` meets its contract: the bits of eight columns are the byte. Assumes nothing.
 use mathlib.Core.Path.{◌≡◌, refl, ap, ◌∙◌}
-use Prim.Native.Nat.{ℕ, ◌-◌, ◌/◌}
+use Prim.Native.Nat.{ℕ, ◌/◌}
 use native.Mathlib.Omega.{arith}
 use Rattle.laws.specs.Lists.{packed}
 use Rattle.strips.proofs.Columns.{next_weight, low_all, high_all}

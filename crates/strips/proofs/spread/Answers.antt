@@ -1,6 +1,6 @@
 -- `strips::spread` meets its contract: the thresholds below 128 j + x are written. Assumes nothing.
 use mathlib.Core.Path.{◌≡◌}
-use Prim.Native.Nat.{◌+◌, ◌-◌, ◌*◌}
+use Prim.Native.Nat.{◌+◌, ◌*◌}
 use native.Mathlib.Omega.{arith}
 use Rattle.laws.proofs.Filled.{filled_none, filled_more, filled_to, filled_end}
 use Rattle.strips.specs.Aside.{spread_of}

@@ -15,7 +15,7 @@ use Rattle.lighting.specs.declared.Setting.{Setting}
 use Rattle.lighting.specs.Light.{byte_at}
 use Rattle.filters.specs.Edge.{held}
 use Rattle.sensor.specs.Nine.{step4}
-use Rattle.sensor.specs.Row.{passes, row_filter, step5}
+use Rattle.sensor.specs.Row.{row_filter, step5}
 use Rattle.sensor.proofs.Facts.{step4_size}
 use Rattle.sensor.proofs.row.step_5.Goals as goal
 

@@ -4,22 +4,20 @@ use native.Mathlib.Nat.{mod-lt, mul-le-mul_right, div-mul-le_self}
 use Prim.Native.Nat.{◌/◌, ◌-◌, ◌*◌, ◌%◌}
 use native.Mathlib.Omega.{arith}
 use lib.Bits.{bit_and}
-use borrow.Author.Rules.{rules}
 use Rattle.timing.proofs.Lent.{some_bit, one_mask}
-use Rattle.timing.proofs.bank_place.Statement.{statement}
-use Rattle.timing.proofs.bank_place.Tie as tie
+use Rattle.timing.proofs.bank_place.Goals as goal
 
-below : (c : tie.Start) → bit_and c.args.number (c.args.len / c.args.size - 1) ≡ c.args.number % (c.args.len / c.args.size)
+below : (c : goal.Start) → bit_and c.args.number (c.args.len / c.args.size - 1) ≡ c.args.number % (c.args.len / c.args.size)
 below c = one_mask c.args.number (c.args.len / c.args.size) c.requires.1
 
-mul-result : tie.Need-overflow-mul-result
-mul-result c =
+pub overflow_mul-result : goal.overflow_mul-result
+overflow_mul-result c =
     let a = c.args in
     rw (below c)
     (omega (arith, mul-le-mul_right a.size (mod-lt a.number (some_bit _ c.requires.1)), div-mul-le_self a.len a.size))
 
-returns : tie.Need-returns
+pub returns : goal.returns
 returns c = ap (λ n. n * c.args.size) (below c)
 
-pub bank-place-spec : {M : Type 1} → statement M
-bank-place-spec = tie.close (tie.spec (λ c. search rules) (λ c. omega (arith, some_bit _ c.requires.1)) mul-result returns)
+pub overflow_sub-result : goal.overflow_sub-result
+overflow_sub-result c = omega (arith, some_bit _ c.requires.1)
