@@ -2,13 +2,8 @@
 use mathlib.Core.Path.{refl}
 use native.Mathlib.Omega.{arith}
 use Rattle.session.specs.Answer.{answer_text}
-use Rattle.session.proofs.session.done.Statement.{statement}
-use Rattle.session.proofs.session.done.Tie as tie
+use Rattle.session.proofs.session.done.Goals as goal
 
-returns : tie.Need-returns
+pub returns : goal.returns
 unfolding answer_text
 returns c = (refl, record { few = omega arith; small = omega arith })
-
-pub done-spec : {M : Type 1} → statement M
-done-spec = tie.close (tie.spec
-    returns)
