@@ -5,7 +5,6 @@ use Prim.Native.Nat.{ℕ, ◌≤◌}
 use lib.ListN.{length}
 use native.Mathlib.Omega.{arith}
 use Rattle.laws.proofs.Order.{split}
-use Rattle.controller.specs.Outcome.{outcome}
 use Rattle.controller.specs.Table.{lowest}
 use Rattle.controller.proofs.Refusals.{judged_ind}
 use Rattle.lines.specs.declared.line.Frame.{Frame}
@@ -20,7 +19,6 @@ use Rattle.recording.specs.declared.record.Recorded.TheVariants as answers
 use Rattle.salvaging.specs.declared.Salvaged.TheVariants as salvages
 use Rattle.answers.specs.Called.{filled}
 use Rattle.recorder.specs.Recorder.{as_line, record_bytes, reported, as_reported, salvage_bytes}
-use Rattle.answers.proofs.Kept.{written}
 
 -- ---- a frame written as a line
 

@@ -2,7 +2,6 @@
 use mathlib.Core.Path.{◌≡◌, refl, sym, ap, ◌∙◌}
 use mathlib.Core.List.{List}
 use Prim.Native.Nat.{ℕ, zero, suc, ◌+◌, ◌/◌, ◌*◌}
-use lib.ListN.{length}
 use Rattle.controller.specs.Table.{lowest, judged}
 use Rattle.salvaging.specs.Salvage.{salvage_rows, salvage_done, salvage_means, unsalvaged}
 use Rattle.answers.specs.Packed.{packed}

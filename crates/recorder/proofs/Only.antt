@@ -2,7 +2,6 @@
 use mathlib.Core.Path.{◌≡◌}
 use mathlib.Core.List.{List}
 use Prim.Native.Nat.{ℕ, ◌/◌, ◌%◌}
-use lib.ListN.{length}
 use native.Mathlib.Omega.{arith}
 use Rattle.lines.specs.declared.line.Frame.{Frame}
 use Rattle.recording.specs.Record.{record_means}
@@ -10,7 +9,6 @@ use Rattle.recording.proofs.Recorded.{record_most}
 use Rattle.salvaging.specs.Salvage.{salvage_means}
 use Rattle.recorder.specs.Recorder.{record_bytes, salvage_bytes, counts_of}
 use Rattle.recorder.proofs.Cases.{salvage_most}
-use Rattle.answers.proofs.Kept.{written}
 use Rattle.answers.proofs.Only.{Says, packed_says}
 
 -- a frame written as a line: the number and the length

@@ -1,5 +1,5 @@
 -- What each exported function of script lines and scripts answers and leaves. Assumes nothing.
-use Rattle.std.specs.Prelude.{List, ℕ, ◌+◌, ◌*◌, length}
+use Rattle.std.specs.Prelude.{List, ℕ, ◌+◌, ◌*◌}
 use Rattle.lines.specs.declared.line.Frame.{Frame}
 use Rattle.recording.specs.Record.{Recording, record_means}
 use Rattle.salvaging.specs.Salvage.{Salvaging, salvage_means}
