@@ -2,11 +2,11 @@
 #![tactic(auto)]
 
 ghost use Rattle.std.specs.Prelude.{◌<◌, ◌≤◌, length};
-ghost use Rattle.io.specs.Counts.{IsPrefixLen};
+ghost use Rattle.std.specs.Counts.{IsPrefixLen};
 
 use controller::Controller;
-use libc::{STDERR_FILENO, STDIN_FILENO, STDOUT_FILENO};
 use script::text::{Reader, feed, finish};
+use std::io::{Read, Write};
 
 // What goes on from one piece of the input to the next.
 #[derive(Clone, Copy)]
@@ -34,6 +34,7 @@ fn within(n: usize, buf: &[u8]) -> usize
 
 // Plays lines of a piece until their answers fill the buffer, and writes the answers. A write that fails ends the session.
 fn play_some(
+    sink: &mut impl Write,
     start: Session,
     rom: &[u8],
     ram: &mut [u8],
@@ -59,7 +60,7 @@ fn play_some(
     let used = fed.used;
     let reader = fed.reader;
     let state = fed.state;
-    let heard = io::write_all(STDOUT_FILENO, &out[..n]);
+    let heard = sink.write_all(&out[..n]).is_ok();
     Session {
         reader,
         state,
@@ -71,6 +72,7 @@ fn play_some(
 
 // Plays a piece from a place on: every answer is written before it returns.
 fn play(
+    sink: &mut impl Write,
     start: Session,
     rom: &[u8],
     ram: &mut [u8],
@@ -84,7 +86,7 @@ fn play(
     let mut now = start;
     let mut at = 0;
     while at < piece.len() {
-        now = play_some(now, rom, ram, store, image, &piece[at..], out);
+        now = play_some(sink, now, rom, ram, store, image, &piece[at..], out);
         let used = now.used;
         if !now.on {
             return now;
@@ -110,6 +112,9 @@ fn stopped(last: Session, ended: bool) -> Session {
 // Waits for a piece of the input and plays it. A read that fails is not the end of the input: it is told, and a line that
 // has begun is not answered.
 fn listen(
+    rt: &impl Eprint,
+    source: &mut impl Read,
+    sink: &mut impl Write,
     start: Session,
     rom: &[u8],
     ram: &mut [u8],
@@ -120,23 +125,23 @@ fn listen(
 ) -> Session
     requires { (length piece.old ≤ 65536) × (11 ≤ length out.old) }
 {
-    let got = libc::read(STDIN_FILENO, piece);
-    if got < 0 {
-        io::write_all(
-            STDERR_FILENO,
-            b"bus: standard input could not be read further; the whole lines before that are answered\n",
-        );
-        return stopped(start, false);
+    match source.read(piece) {
+        Ok(0) => stopped(start, true),
+        Ok(n) => play(sink, start, rom, ram, store, image, &piece[..n], out),
+        Err(_) => {
+            let _ = rt.eprintln(
+                "bus: standard input could not be read further; the whole lines before that are answered",
+            );
+            stopped(start, false)
+        }
     }
-    if got == 0 {
-        return stopped(start, true);
-    }
-    let n = io::count(got, piece);
-    play(start, rom, ram, store, image, &piece[..n], out)
 }
 
-// Piece after piece, counted down from a number that no run uses up, since a proved loop has to end.
+// Piece after piece, as many as no run uses up, since a proved loop has to end.
 fn converse(
+    rt: &impl Eprint,
+    source: &mut impl Read,
+    sink: &mut impl Write,
     start: Session,
     rom: &[u8],
     ram: &mut [u8],
@@ -148,32 +153,37 @@ fn converse(
     requires { (length piece.old ≤ 65536) × (11 ≤ length out.old) }
 {
     let mut now = start;
-    let mut turns = u64::MAX;
-    while turns > 0 {
-        now = listen(now, rom, ram, store, image, piece, out);
+    for _ in 0..u64::MAX {
+        now = listen(rt, source, sink, now, rom, ram, store, image, piece, out);
         if !now.on {
             return now;
         }
-        turns -= 1;
     }
     now
 }
 
 // The end of the input: a last line without LF is answered.
-fn end(last: Session, rom: &[u8], ram: &mut [u8], store: &mut [u8], image: &mut [u8]) {
+fn end(
+    sink: &mut impl Write,
+    last: Session,
+    rom: &[u8],
+    ram: &mut [u8],
+    store: &mut [u8],
+    image: &mut [u8],
+) {
     let done = finish(last.reader, last.state, rom, ram, store, image);
     let text = done.text;
     let n = within(done.length, &text);
-    io::write_all(STDOUT_FILENO, &text[..n]);
+    let _ = sink.write_all(&text[..n]);
 }
 
-fn main() {
+fn main(rt: HostRuntime) {
     let rom = [0xFFu8; 16384];
     let mut ram = [0xFFu8; 8192];
     let mut store = [0u8; 16384];
     let mut image = [0u8; 16384];
-    let mut piece = io::large_buffer();
-    let mut out = io::large_buffer();
+    let mut piece = [0u8; 65536];
+    let mut out = [0u8; 65536];
     let start = Session {
         reader: Reader::new(),
         state: Controller::reset(),
@@ -181,10 +191,21 @@ fn main() {
         ended: false,
         used: 0,
     };
+    let mut source = rt.stdin();
+    let mut sink = rt.stdout();
     let last = converse(
-        start, &rom, &mut ram, &mut store, &mut image, &mut piece, &mut out,
+        &rt,
+        &mut source,
+        &mut sink,
+        start,
+        &rom,
+        &mut ram,
+        &mut store,
+        &mut image,
+        &mut piece,
+        &mut out,
     );
     if last.ended {
-        end(last, &rom, &mut ram, &mut store, &mut image);
+        end(&mut sink, last, &rom, &mut ram, &mut store, &mut image);
     }
 }
