@@ -1,0 +1,26 @@
+-- `judging::judge` meets its contract: it is judged, the picture drawn, and then row by row. Assumes nothing.
+use mathlib.Core.Path.{◌∙◌}
+use native.Mathlib.Omega.{arith}
+use lib.ListN.{length-take, length-drop}
+use Rattle.controller.proofs.Refusals.{by_why, by_fits, fits_none}
+use Rattle.judging.proofs.Outcomes.{judge_refuses, judge_fits, drawn, judged_rows}
+use Rattle.judging.proofs.judge.Goals as goal
+
+pub returns-in-Refused : goal.returns-in-Refused
+returns-in-Refused c = by_why (judge_refuses _ _ _ _) _ c.judge_lent-verdict.ensures _ c.in-Refused.is
+
+pub slice_bounds-judge_rows-end : goal.slice_bounds-judge_rows-end
+slice_bounds-judge_rows-end c = (judge_fits _ _ (fits_none _ _ c.judge_lent-verdict.ensures c.in_default.is)).1
+
+pub judge_rows-requires : goal.judge_rows-requires
+judge_rows-requires c =
+    let f = judge_fits c.args.frame.now c.args.rows.now (fits_none _ _ c.judge_lent-verdict.ensures c.in_default.is) in
+    simp (length-take, length-drop) (omega (arith, f.1))
+
+pub returns : goal.returns
+returns c =
+    let j = c.judge_rows.ensures in
+    let a = c.args in
+    let f = judge_fits a.frame.now a.rows.now (fits_none _ _ c.judge_lent-verdict.ensures c.in_default.is) in
+    judged_rows a.plate.now _ _ a.rows.now _ _ (drawn a.frame.now a.registers _ _ _ f.0 c.picture.ensures) j.rows_after j.value
+    ∙ by_fits (judge_refuses _ _ _ _) _ c.judge_lent-verdict.ensures c.in_default.is
