@@ -44,6 +44,7 @@ said_hex {f} {bytes} s =
     some (Write a v) s e = let n : ◌≡◌ {A = ℕ} 0 1 = cc in omega arith
     some (Tick k) s e = let n : ◌≡◌ {A = ℕ} 0 1 = cc in omega arith
     some (Row y) s e = let n : ◌≡◌ {A = ℕ} 0 1 = cc in omega arith
+    some Malformed s e = elim s [ ]
 
 -- calls that can be recorded
 pub data AllSayable : List Call → Type 0 where
