@@ -31,8 +31,8 @@ use Rattle.history.proofs.Reachable.{sound, reachable}
 
 -- a call that is seen to start nothing, to end nothing and to land nowhere
 pub record Quiet (w : World) (k : Call) : Type 0 where
-  pub no_start_lem : start_seen w k ≡ false
-  pub no_end_lem : end_seen w k ≡ false
+  pub no_start : start_seen w k ≡ false
+  pub no_end : end_seen w k ≡ false
   pub no_landing : (p : ℕ) → lands_seen w k p ≡ false
 
 -- a world with nothing changed but the registers
@@ -52,7 +52,7 @@ module _ (ram store : List ℕ) (cs : List Call) (light level : ℕ) (plain : Bo
   -- Quiet: after any calls from reset, a choice starts nothing, ends nothing and lands nowhere
   pub choice_quiet : Quiet (after (fresh ram store) cs) (choose light level plain exposure)
   unfolding starts ends lands_seen goes_in
-  choice_quiet = record { no_start_lem = sym (start_same _ _ m choice); no_end_lem = sym (end_same _ _ m choice); no_landing = λ p. refl }
+  choice_quiet = record { no_start = sym (start_same _ _ m choice); no_end = sym (end_same _ _ m choice); no_landing = λ p. refl }
 
   -- Chosen: after any calls from reset, a choice of the table changes the registers of the state and nothing else, and any other changes nothing
   pub choice_leaves : leaves (after (fresh ram store) cs) (choose light level plain exposure)

@@ -98,7 +98,7 @@ module _ (w : World) (im : List ℕ) (own : w.state.held ≡ true → w.store �
   call_counts reset = record { started = refl; ended = refl }
   call_counts (read rom a) = judged_ind (λ (o : Outcome). Same o.state) (lowest (read_rows c rom w.ram a)) (λ _. same) same
   call_counts (write image a v) = write_next image a v
-  call_counts (tick n) = let t = tick_told w im own exists n in record { started = t.starts_kept; ended = t.ends_told_lem }
+  call_counts (tick n) = let t = tick_told w im own exists n in record { started = t.starts_kept; ended = t.ends_told }
   call_counts inspect = same
   call_counts (choose light level plain exposure) = choose_next light level plain exposure
   call_counts (place file) = place_next file

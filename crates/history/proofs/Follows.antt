@@ -207,7 +207,7 @@ module _ (w : World) (im : List ℕ) (own : w.state.held ≡ true → w.store �
       pub told : Told (next (seen w im) (tick n)) (leaves w (tick n))
       pub count : count_in (answers w (tick n)) ≡ runs_in (seen w im) (tick n)
       pub starts_kept : (leaves w (tick n)).state.started ≡ c.started
-      pub ends_told_lem : (leaves w (tick n)).state.ended ≡ pick (ends (seen w im) (tick n)) (one_more c.ended) c.ended
+      pub ends_told : (leaves w (tick n)).state.ended ≡ pick (ends (seen w im) (tick n)) (one_more c.ended) c.ended
       pub ram : (leaves w (tick n)).ram ≡ pixels (byte_at w.store) c.taken (done_by c.taken c.elapsed.0) (done_by c.taken (c.elapsed.0 + runs_in (seen w im) (tick n))) w.ram
 
     module _ (n : ℕ) where
@@ -259,7 +259,7 @@ module _ (w : World) (im : List ℕ) (own : w.state.held ≡ true → w.store �
         told = rw (next_still z, l) stays;
         count = k ∙ sym z;
         starts_kept = rw l;
-        ends_told_lem = rw (l, ends_still z);
+        ends_told = rw (l, ends_still z);
         ram = rw (z, add-zero, l, pixels_none (byte_at w.store) c.taken (done_by c.taken e) w.ram);
       }
 
@@ -301,7 +301,7 @@ module _ (w : World) (im : List ℕ) (own : w.state.held ≡ true → w.store �
                 told = rw (next_on z l, tick_leaves w n exists, ok, g) (on_told _ (pixels_length (byte_at w.store) c.taken _ _ w.ram));
                 count = tick_count w n exists ∙ rw (ok, g, z);
                 starts_kept = rw (tick_leaves w n exists, ok, g);
-                ends_told_lem = rw (tick_leaves w n exists, ok, g, ends_on z l);
+                ends_told = rw (tick_leaves w n exists, ok, g, ends_on z l);
                 ram = rw (tick_leaves w n exists, ok, g, z);
               }
 
@@ -317,7 +317,7 @@ module _ (w : World) (im : List ℕ) (own : w.state.held ≡ true → w.store �
                 told = rw (next_over h z b, tick_leaves w n exists, ok, g) (over_told _ (pixels_length (byte_at w.store) c.taken _ _ w.ram));
                 count = tick_count w n exists ∙ rw (ok, g, z);
                 starts_kept = rw (tick_leaves w n exists, ok, g);
-                ends_told_lem = rw (tick_leaves w n exists, ok, g, ends_over h z b);
+                ends_told = rw (tick_leaves w n exists, ok, g, ends_over h z b);
                 ram = rw (tick_leaves w n exists, ok, g, z) (ap (λ (k : ℕ). pixels (byte_at w.store) c.taken (done_by c.taken e) (done_by c.taken k) w.ram) whole);
               }
 

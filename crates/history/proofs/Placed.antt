@@ -45,8 +45,8 @@ use Rattle.history.proofs.Reachable.{reachable}
 
 -- a call that is seen to start nothing, to end nothing and to run no cycle
 pub record Still (w : World) (k : Call) : Type 0 where
-  pub no_start_lem : start_seen w k ≡ false
-  pub no_end_lem : end_seen w k ≡ false
+  pub no_start : start_seen w k ≡ false
+  pub no_end : end_seen w k ≡ false
   pub no_cycle : count_in (answers w k) ≡ 0
 
 module _ (ram store : List ℕ) (cs : List Call) (file : List ℕ) where
@@ -59,7 +59,7 @@ module _ (ram store : List ℕ) (cs : List Call) (file : List ℕ) where
   -- Still: after any calls from reset, a placing starts nothing, ends nothing and runs no cycle
   pub place_still : Still (after (fresh ram store) cs) (place file)
   unfolding starts ends answers
-  place_still = record { no_start_lem = sym (start_same _ _ m (place file)); no_end_lem = sym (end_same _ _ m (place file)); no_cycle = refl }
+  place_still = record { no_start = sym (start_same _ _ m (place file)); no_end = sym (end_same _ _ m (place file)); no_cycle = refl }
 
   -- Placed: after any calls from reset, an accepted placing changes the area and nothing else, and any other changes nothing
   pub placing_leaves : leaves (after (fresh ram store) cs) (place file)
