@@ -1,4 +1,8 @@
 -- `tiles::put_some` meets its contract: the pixels of two bytes, or whole rows. Assumes nothing.
+use borrow.Author.Rules.{rules}
+use mir.Syntax.{w8}
+use mir.Val.{Fits}
+use lib.ListN.{get_or}
 use Prim.Native.Nat.{◌+◌, ◌-◌, ◌*◌, ◌/◌}
 use native.Mathlib.Omega.{arith}
 use mathlib.Core.Path.{◌≡◌, ◌∙◌}
@@ -13,7 +17,7 @@ returns-then-first-end c =
     let count = a.to / 128 - first in
     let e : 8 * (16 * first) ≡ a.j = omega arith in
     let f : 8 * (16 * first + 16 * count) ≡ 128 * (a.to / 128) = omega arith in (
-      rw c.whole-taken.ensures at c.put_rows.ensures ∙ rw (e, f) at (pairs_pixels (byte_at a.store.now) a.regs.now a.ram.now (omega arith) (λ i. omega (arith, c.slice_known-1.given i)) (16 * first) (16 * count) (omega arith)),
+      rw c.whole-taken.ensures at c.put_rows.ensures ∙ rw (e, f) at (pairs_pixels (byte_at a.store.now) a.regs.now a.ram.now (omega arith) (λ i. let k : Fits w8 (get_or a.ram.now i 0) = search rules in omega arith) (16 * first) (16 * count) (omega arith)),
       omega arith,
       omega arith,
     )
