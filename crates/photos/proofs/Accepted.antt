@@ -1,9 +1,9 @@
 -- A file is accepted exactly when it is a photograph, with one reading only, and the image is that of its pixels. Assumes nothing.
-use mathlib.Core.Path.{◌≡◌, refl, sym, ap, ◌∙◌}
+use mathlib.Core.Path.{◌≡◌, sym, ap, ◌∙◌}
 use mathlib.Core.Logic.{◌↔◌}
 use mathlib.Core.Bool.{true, ◌&&◌}
-use mathlib.Core.List.{List, ◌++◌}
-use Prim.Native.Nat.{ℕ, ◌+◌, ◌-◌, ◌≤◌}
+use mathlib.Core.List.{List}
+use Prim.Native.Nat.{ℕ, ◌≤◌}
 use native.Mathlib.Omega.{arith}
 use lib.Dec.{leb}
 use lib.ListN.{length, take, drop, length-append, length-drop, take-append-drop}
@@ -11,7 +11,7 @@ use lib.Seq.{length-take-le, take-append_seam, drop-append_seam}
 use borrow.Author.Tests.{leb-true, le-leb}
 use Rattle.laws.specs.Lists.{listed}
 use Rattle.laws.proofs.Bools.{both_left, both_right}
-use Rattle.photos.specs.Header.{Header, Photo}
+use Rattle.photos.specs.Header.{Photo}
 use Rattle.photos.specs.Aside.{is_header}
 use Rattle.photos.specs.Photo.{header_length, is_photo, value_of, image_of}
 use Rattle.photos.proofs.Grammar.{reads_header}

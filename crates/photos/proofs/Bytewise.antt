@@ -1,7 +1,7 @@
 -- A header read byte by byte: each step's law. Assumes nothing.
-use mathlib.Core.Path.{◌≡◌, refl, sym, ap, ◌∙◌}
-use mathlib.Core.Bool.{Bool, true, false}
-use mathlib.Core.List.{List, [], ◌∷◌}
+use mathlib.Core.Path.{◌≡◌, refl}
+use mathlib.Core.Bool.{true, false}
+use mathlib.Core.List.{List, ◌∷◌}
 use Prim.Native.Nat.{ℕ, zero, suc, ◌+◌, ◌<◌, ◌≤◌}
 use native.Mathlib.Numerals.{add-one}
 use native.Mathlib.Omega.{arith}
@@ -11,7 +11,7 @@ use lib.Dec.{eqb}
 use borrow.Author.Tests.{eq-eqb, ne_eqb}
 use Rattle.laws.proofs.Order.{split}
 use Rattle.photos.specs.Header.{is_white, is_end, parts}
-use Rattle.photos.specs.Aside.{Left, at_part, in_gap, in_comment, moved, finished, reads, from}
+use Rattle.photos.specs.Aside.{Left, at_part, moved, finished, reads, from}
 
 -- the parts from number n on: that one, and those after it
 pub part_at : (n : ℕ) → n < 15 → drop n parts ≡ get_or parts n 0 ∷ drop (n + 1) parts
