@@ -3,10 +3,9 @@ use mathlib.Core.Path.{◌≡◌, refl, sym, ap, ◌∙◌}
 use mathlib.Core.Bool.{Bool}
 use mathlib.Core.List.{List, [], ◌∷◌, ◌++◌}
 use Prim.Native.Nat.{ℕ, zero, suc, ◌+◌, ◌-◌, ◌<◌, ◌≤◌}
-use native.Mathlib.Numerals.{add-one}
 use native.Mathlib.Omega.{arith}
 use lib.ListN.{length, get_or, take, drop, set, length-append, length-drop}
-use lib.Seq.{take-suc, length-take-le}
+use lib.Seq.{length-take-le}
 use Rattle.lines.specs.Hex.{placed}
 use Rattle.recording.specs.Record.{ended}
 use Rattle.lines.proofs.Placed.{placed_one, placed_next, placed_byte_lem, length_placed}
