@@ -16,7 +16,7 @@ bounds-out-0 c = omega arith
 
 pub loop-x-init : goal.loop-x-init
 unfolding edge_of
-loop-x-init c = let f = c.before in (omega arith, filled_first _ f.args.out.now _ (omega arith) (omega arith) (right 0x2 _ f.nine.ensures f.mode_2.type_inv f.mode_2.ensures c.raise.ensures))
+loop-x-init c = (omega arith, filled_first _ c.args.out.now _ (omega arith) (omega arith) (right 0x2 _ c.nine.ensures c.mode_2.type_inv c.mode_2.ensures c.raise.ensures))
 
 pub raise-requires-in-loop-x : goal.raise-requires-in-loop-x
 unfolding edge_of
@@ -36,7 +36,7 @@ loop-x-smaller c = omega arith
 
 pub loop-x-preserved : goal.loop-x-preserved
 unfolding edge_of
-loop-x-preserved c = let f = c.before in (omega arith, turn 0x2 _ f.nine-in-loop-x.ensures f.mode_2-in-loop-x.type_inv f.mode_2-in-loop-x.ensures c.raise-in-loop-x.ensures f.loop-x.invariant.1 (omega arith))
+loop-x-preserved c = (omega arith, turn 0x2 _ c.nine-in-loop-x.ensures c.mode_2-in-loop-x.type_inv c.mode_2-in-loop-x.ensures c.raise-in-loop-x.ensures c.loop-x.invariant.1 (omega arith))
 
 pub loop-x-2-init : goal.loop-x-2-init
 unfolding edge_of
@@ -60,7 +60,7 @@ loop-x-2-smaller c = omega arith
 
 pub loop-x-2-preserved : goal.loop-x-2-preserved
 unfolding edge_of
-loop-x-2-preserved c = let f = c.before in (omega arith, turn 0x2 _ f.nine-in-loop-x-2.ensures f.mode_2-in-loop-x-2.type_inv f.mode_2-in-loop-x-2.ensures c.raise-in-loop-x-2.ensures f.loop-x-2.invariant.1 (omega arith))
+loop-x-2-preserved c = (omega arith, turn 0x2 _ c.nine-in-loop-x-2.ensures c.mode_2-in-loop-x-2.type_inv c.mode_2-in-loop-x-2.ensures c.raise-in-loop-x-2.ensures c.loop-x-2.invariant.1 (omega arith))
 
 pub raise-requires-2 : goal.raise-requires-2
 unfolding edge_of
@@ -76,4 +76,4 @@ shape_of-out c = simp length-set (omega arith)
 
 pub returns : goal.returns
 unfolding edge_of
-returns c = let f = c.before in let l = f.loop-x-2 in filled_last _ l.out _ l.invariant.1 (omega arith) (right 0x2 _ f.nine-2.ensures f.mode_2-2.type_inv f.mode_2-2.ensures c.raise-2.ensures)
+returns c = let l = c.loop-x-2 in filled_last _ l.out _ l.invariant.1 (omega arith) (right 0x2 _ c.nine-2.ensures c.mode_2-2.type_inv c.mode_2-2.ensures c.raise-2.ensures)

@@ -27,7 +27,7 @@ loop-x-smaller c = omega arith
 
 pub loop-x-preserved : goal.loop-x-preserved
 unfolding edge_of
-loop-x-preserved c = let f = c.before in (omega arith, turn 0xC _ f.nine.ensures f.mode_c.type_inv f.mode_c.ensures c.raise.ensures f.loop-x.invariant.1 (omega arith))
+loop-x-preserved c = (omega arith, turn 0xC _ c.nine.ensures c.mode_c.type_inv c.mode_c.ensures c.raise.ensures c.loop-x.invariant.1 (omega arith))
 
 pub shape_of-out : goal.shape_of-out
 unfolding edge_of

@@ -47,9 +47,8 @@ pub overflow_add-low : goal.overflow_add-low
 unfolding turned_shade
 overflow_add-low c =
     let l = c.loop-t in
-    let s = c.before.before.before.before.before.before.before.before in
-    let a = s.args in
-    omega (arith, low_room a.values.now a.matrix.now a.at s.requires.at_bound.1 s.requires.at_bound.2 l.invariant.1 (omega arith) c.low_weight.ensures)
+    let a = c.args in
+    omega (arith, low_room a.values.now a.matrix.now a.at c.requires.at_bound.1 c.requires.at_bound.2 l.invariant.1 (omega arith) c.low_weight.ensures)
 
 pub bounds-low-t-in-loop-t : goal.bounds-low-t-in-loop-t
 bounds-low-t-in-loop-t c = omega arith
@@ -61,9 +60,8 @@ pub overflow_add-high : goal.overflow_add-high
 unfolding turned_shade
 overflow_add-high c =
     let l = c.loop-t in
-    let s = c.before.before.before.before.before.before.before.before.before.before in
-    let a = s.args in
-    omega (arith, high_room a.values.now a.matrix.now a.at s.requires.at_bound.1 s.requires.at_bound.2 l.invariant.2 (omega arith) c.high_weight.ensures)
+    let a = c.args in
+    omega (arith, high_room a.values.now a.matrix.now a.at c.requires.at_bound.1 c.requires.at_bound.2 l.invariant.2 (omega arith) c.high_weight.ensures)
 
 pub bounds-high-t-in-loop-t : goal.bounds-high-t-in-loop-t
 bounds-high-t-in-loop-t c = omega arith
@@ -78,9 +76,8 @@ pub loop-t-preserved : goal.loop-t-preserved
 unfolding turned_shade
 loop-t-preserved c =
     let l = c.loop-t in
-    let s = c.before.before.before.before.before.before.before.before.before.before in
-    let a = s.args in
-    let p = s.requires.at_bound in (
+    let a = c.args in
+    let p = c.requires.at_bound in (
       omega arith,
       low_next a.values.now a.matrix.now a.at p.1 p.2 l.invariant.1 (omega arith) c.low_weight.ensures,
       high_next a.values.now a.matrix.now a.at p.1 p.2 l.invariant.2 (omega arith) c.high_weight.ensures,

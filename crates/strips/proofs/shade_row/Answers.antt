@@ -30,10 +30,9 @@ loop-b-preserved c =
 pub returns : goal.returns
 returns c =
     let l = c.loop-b in
-    let s = c.before.before.before in
-    let a = s.args in
+    let a = c.args in
     let made = c.turn-turned.ensures in
     let e : l.b ≡ 8 = omega arith in (
-      low_all a.values.now a.regs.now a.row made s.requires.0 e l.invariant.2,
-      high_all a.values.now a.regs.now a.row made s.requires.0 e l.invariant.3,
+      low_all a.values.now a.regs.now a.row made c.requires.0 e l.invariant.2,
+      high_all a.values.now a.regs.now a.row made c.requires.0 e l.invariant.3,
     )

@@ -46,10 +46,9 @@ loop-x-smaller c = omega arith
 pub loop-x-preserved : goal.loop-x-preserved
 loop-x-preserved c =
     let r = c.loop-x in
-    let n = c.before.before in
-    let j = n.loop-j.j in
+    let j = c.loop-j.j in
     let q : 128 * j + r.x + 1 ≡ 128 * j + (r.x + 1) = omega arith in
-    (omega arith, omega arith, filled_to _ (filled_more _ _ r.invariant.2 (omega arith) (spread_at n.args.regs.now j r.x (omega arith) n.thresholds.ensures n.repeat-line.ensures)) q)
+    (omega arith, omega arith, filled_to _ (filled_more _ _ r.invariant.2 (omega arith) (spread_at c.args.regs.now j r.x (omega arith) c.thresholds.ensures c.repeat-line.ensures)) q)
 
 pub overflow_step-j : goal.overflow_step-j
 overflow_step-j c = omega arith

@@ -3,8 +3,4 @@ use Rattle.strips.proofs.Columns.{turned}
 use Rattle.strips.proofs.turn.Goals as goal
 
 pub returns : goal.returns
-returns c =
-    let thrice = c.before.before in
-    let twice = thrice.before.before in
-    let once = twice.before.before in
-    turned once.args.values.now once.interleave-once.ensures twice.interleave-twice.ensures thrice.interleave-thrice.ensures c.interleave.ensures
+returns c = turned c.args.values.now c.interleave-once.ensures c.interleave-twice.ensures c.interleave-thrice.ensures c.interleave.ensures

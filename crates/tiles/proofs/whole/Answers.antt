@@ -26,5 +26,4 @@ loop-i-preserved c = let l = c.loop-i in (omega arith, filled_more _ _ l.invaria
 pub returns : goal.returns
 returns c =
     let l = c.loop-i in
-    let s = c.before.before in
-    ext_get_or 0 l.out s.args.regs.now (l.invariant.1.whole ∙ sym s.requires) (λ k h. l.invariant.1.same k (omega (arith, l.invariant.1.whole)))
+    ext_get_or 0 l.out c.args.regs.now (l.invariant.1.whole ∙ sym c.requires) (λ k h. l.invariant.1.same k (omega (arith, l.invariant.1.whole)))

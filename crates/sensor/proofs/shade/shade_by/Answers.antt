@@ -28,25 +28,22 @@ dark-less v low mid h e = bit (ltb v low) 1 _ e (lit< tt) (bit (ltb v mid) 1 0 h
 
 pub overflow_mul-result : goal.overflow_mul-result
 overflow_mul-result c =
-    let d = c.before.before.before in
-    let a = d.args in
-    omega (arith, dark-less a.v a.low a.mid d.either.ensures d.either-dark.ensures)
+    let a = c.args in
+    omega (arith, dark-less a.v a.low a.mid c.either.ensures c.either-dark.ensures)
 
 pub overflow_add-result : goal.overflow_add-result
 overflow_add-result c =
-    let d = c.before.before.before in
-    let a = d.args in
+    let a = c.args in
     let h = bit (ltb a.v a.high) 1 0 c.either-2.ensures (lit< tt) (lit< tt) in
     let m = bit (ltb a.v a.mid) 0 _ c.either-3.ensures (lit< tt) h in
     omega (
       arith,
-      dark-less a.v a.low a.mid d.either.ensures d.either-dark.ensures,
+      dark-less a.v a.low a.mid c.either.ensures c.either-dark.ensures,
       bit (ltb a.v a.low) 1 _ c.either-odd.ensures (lit< tt) m,
     )
 
 pub returns : goal.returns
 returns c =
-    let d = c.before.before.before in
-    let a = d.args in
-    rw (c.either-odd.ensures, c.either-3.ensures, c.either-2.ensures, d.either-dark.ensures, d.either.ensures)
+    let a = c.args in
+    rw (c.either-odd.ensures, c.either-3.ensures, c.either-2.ensures, c.either-dark.ensures, c.either.ensures)
     (both_bits (ltb a.v a.low) (ltb a.v a.mid) (ltb a.v a.high))
