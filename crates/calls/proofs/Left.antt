@@ -1,6 +1,6 @@
 -- What a write or a tick leaves, of a state that is read from bytes, has the sizes of a record. Assumes nothing.
-use mathlib.Core.Path.{◌≡◌, refl, ap, ◌∙◌}
-use mathlib.Core.Bool.{Bool, true, false, not, ◌||◌}
+use mathlib.Core.Path.{◌≡◌, refl, ◌∙◌}
+use mathlib.Core.Bool.{true, false, not, ◌||◌}
 use mathlib.Core.List.{List, [], ◌∷◌}
 use Prim.Native.Nat.{ℕ, zero, suc, ◌+◌, ◌*◌, ◌%◌, ◌<◌}
 use native.Mathlib.Omega.{arith}
@@ -26,9 +26,9 @@ use Rattle.controller.proofs.Exists.{exists_parts, before_total}
 use Rattle.cartridge.proofs.Refusals.{write_refuses}
 use Rattle.capture.proofs.Refusals.{tick_refuses, tick_fits}
 use Rattle.laws.proofs.Bools.{either, neither_left}
-use Rattle.capture.proofs.TickSum.{Kept, ticks_keep, again, after, tick_sum}
-use Rattle.layout.specs.Layout.{encoded, is_record, four_at, decoded}
-use Rattle.layout.proofs.Inverse.{Whole, record_parts, encoded_record, decode_encode, encode_decode}
+use Rattle.capture.proofs.TickSum.{Kept, ticks_keep}
+use Rattle.layout.specs.Layout.{is_record, four_at, decoded}
+use Rattle.layout.proofs.Inverse.{Whole, record_parts}
 
 -- ---- what bytes are read as
 
