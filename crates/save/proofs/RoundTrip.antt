@@ -1,9 +1,9 @@
 -- A save written and read, read and written, and which files are accepted. Assumes nothing.
 use mathlib.Core.Path.{◌≡◌, refl, sym, ap, ap₂, ◌∙◌}
-use mathlib.Core.Bool.{Bool, true, ◌&&◌}
+use mathlib.Core.Bool.{true}
 use mathlib.Core.Logic.{◌↔◌}
 use mathlib.Core.List.{List, [], ◌∷◌, ◌++◌, append_assoc}
-use Prim.Native.Nat.{ℕ, zero, suc, ◌+◌, ◌*◌, ◌/◌, ◌%◌, ◌<◌, ◌≤◌}
+use Prim.Native.Nat.{ℕ, zero, suc, ◌+◌, ◌/◌, ◌%◌, ◌<◌, ◌≤◌}
 use native.Mathlib.Omega.{arith}
 use lib.Count.{ones, ones_in}
 use lib.Dec.{eqb}
@@ -24,9 +24,9 @@ use Rattle.shades.specs.Shades.{exported}
 use Rattle.placing.specs.Placing.{each}
 use Rattle.placing.proofs.Each.{each_at}
 use Rattle.save.specs.Save.{magic, body_of, save_of, save_length, is_state, save_rows, save_means}
-use Rattle.save.specs.Restore.{ram_length_in, state_in, ram_in, store_in, body_length_in, body_in, is_sized, has_magic, is_whole, is_save, restore_rows, restored, restore_means}
+use Rattle.save.specs.Restore.{ram_length_in, state_in, ram_in, store_in, body_in, is_sized, has_magic, is_whole, is_save, restore_rows, restored, restore_means}
 use Rattle.save.proofs.Saved.{body_length, state_long, save_refuses}
-use Rattle.save.proofs.Restored.{Sized, IsSave, save_parts, part_long, restore_refuses, restore_fits}
+use Rattle.save.proofs.Restored.{IsSave, save_parts, part_long, restore_refuses, restore_fits}
 
 -- ---- numbers at a place
 
