@@ -78,6 +78,7 @@ pub extern "C" fn gulxinett_tick(state: &mut [u8], ram: &mut [u8], store: &[u8],
 }
 
 // The exposure that a number names; above FFFF none.
+#[tactic(auto, unfolding(crate::specs::Exports::exposure_in))]
 fn exposure_in(n: u32) -> Exposure
     ensures { result ≡ exposure_in n }
 {
