@@ -2,10 +2,10 @@
 #![tactic(auto)]
 
 ghost use Rattle.std.specs.Prelude.{◌<◌, ◌≤◌, length};
-ghost use Rattle.io.specs.Counts.{IsPrefixLen};
+ghost use Rattle.std.specs.Counts.{IsPrefixLen};
 
 use ledger::gulxinett_audit;
-use libc::STDOUT_FILENO;
+use std::io::Write;
 use sweeping::lines_audited;
 
 // How much of a piece was played, and whether its events could be written.
@@ -41,16 +41,17 @@ fn some_of(n: usize, most: usize) -> usize
 }
 
 // Writes what the last call has put into the buffer: so many bytes as the book's first number says.
-pub fn tell(book: &[u64], out: &[u8]) -> bool {
+pub fn tell(sink: &mut impl Write, book: &[u64], out: &[u8]) -> bool {
     if book.len() == 0 {
         return true;
     }
     let n = within(book[0] as usize, out);
-    io::write_all(STDOUT_FILENO, &out[..n])
+    sink.write_all(&out[..n]).is_ok()
 }
 
 // Plays a line of a piece, or what there is of it, and writes its event.
 fn play_line(
+    sink: &mut impl Write,
     book: &mut [u64],
     line: &mut [u8],
     state: &mut [u8],
@@ -66,7 +67,7 @@ fn play_line(
 {
     let answer = gulxinett_audit(book, line, state, rom, ram, store, image, piece, out);
     let used = some_of((answer % 4294967296) as usize, piece.len());
-    let heard = tell(book, out);
+    let heard = tell(sink, book, out);
     Turn { used, heard }
 }
 
@@ -81,6 +82,7 @@ fn has_begun(book: &[u64]) -> bool {
 // Plays whole lines of a piece, as many as the buffer has room for the events of, and writes these; where a line has begun before, or none ends here,
 // one line or what there is of it.
 fn play_some(
+    sink: &mut impl Write,
     book: &mut [u64],
     line: &mut [u8],
     state: &mut [u8],
@@ -95,20 +97,21 @@ fn play_some(
     ensures { (0 < result.used) × (result.used ≤ length piece.now) }
 {
     if has_begun(book) {
-        return play_line(book, line, state, rom, ram, store, image, piece, out);
+        return play_line(sink, book, line, state, rom, ram, store, image, piece, out);
     }
     let swept = lines_audited(book, state, rom, ram, store, image, piece, out);
     if swept.used == 0 {
-        return play_line(book, line, state, rom, ram, store, image, piece, out);
+        return play_line(sink, book, line, state, rom, ram, store, image, piece, out);
     }
     let used = swept.used;
     let n = within(swept.written, out);
-    let heard = io::write_all(STDOUT_FILENO, &out[..n]);
+    let heard = sink.write_all(&out[..n]).is_ok();
     Turn { used, heard }
 }
 
 // Plays a piece: every event is written before it returns. It answers whether they could be.
 pub fn play(
+    sink: &mut impl Write,
     book: &mut [u64],
     line: &mut [u8],
     state: &mut [u8],
@@ -123,7 +126,18 @@ pub fn play(
 {
     let mut at = 0;
     while at < piece.len() {
-        let turn = play_some(book, line, state, rom, ram, store, image, &piece[at..], out);
+        let turn = play_some(
+            sink,
+            book,
+            line,
+            state,
+            rom,
+            ram,
+            store,
+            image,
+            &piece[at..],
+            out,
+        );
         let used = turn.used;
         if !turn.heard {
             return false;
