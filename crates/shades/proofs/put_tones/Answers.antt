@@ -26,18 +26,12 @@ put_eight-requires c = omega (arith, c.loop-x.invariant.1.whole)
 
 pub loop-x-preserved : goal.loop-x-preserved
 loop-x-preserved c =
-    let p = c in
-    let q = p.before.before.before.before in
-    let e2 = q.before.before in
-    let e1 = e2.before.before in
-    let l = e1.loop-x in
-    let o = e1.loop-y in
-    let f = e1.before.before.before.before.before.before in
-    let s = f.before.before.before.before in
-    let a = s.args in
+    let l = c.loop-x in
+    let y = c.loop-y.y in
+    let a = c.args in
     let inside : l.x < 8 = omega arith in
-    let below : o.y < 112 = omega (arith, e1.loop-y-test) in
-    (omega arith, rw (p.put_eight-in-loop-x.ensures, q.put_eight.ensures) (two_put a.ram.now a.step a.negative s.requires.step_bound f.fill.ensures {x = l.x} {y = o.y} e1.eight-a.ensures e2.eight-b.ensures inside below l.invariant.1))
+    let below : y < 112 = omega arith in
+    (omega arith, rw (c.put_eight-in-loop-x.ensures, c.put_eight.ensures) (two_put a.ram.now a.step a.negative c.requires.step_bound c.fill.ensures {x = l.x} {y = y} c.eight-a.ensures c.eight-b.ensures inside below l.invariant.1))
 
 pub loop-y-preserved : goal.loop-y-preserved
 loop-y-preserved c = (omega arith, filled_to _ c.loop-x.invariant.1 (omega arith))
