@@ -42,6 +42,7 @@ fn entered(
 }
 
 // Whether there is no event.
+#[tactic(auto, unfolding(crate::specs::Aside::is_quiet))]
 fn is_quiet(kind: Kind) -> bool
     ensures { result ≡ is_quiet kind }
 {
