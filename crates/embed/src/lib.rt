@@ -3,7 +3,7 @@
 // Each function answers the refusal's number * 2^32 + the value (answer). A refused call changes no byte it was lent.
 #![tactic(auto)]
 
-mod keep;
+pub mod keep;
 
 ghost use Rattle.std.specs.Prelude.{◌≡◌, []};
 ghost use Rattle.answers.specs.Called.{called};

@@ -1,7 +1,7 @@
 // What C and Rust call for pictures, plates and photographs. Each function answers as those of `embed` do.
 #![tactic(auto)]
 
-mod judge;
+pub mod judge;
 
 ghost use Rattle.std.specs.Prelude.{◌≡◌, []};
 ghost use Rattle.answers.specs.Called.{called, filled};

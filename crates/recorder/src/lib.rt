@@ -1,6 +1,6 @@
 // What C and Rust call for script lines and scripts. Each function answers as those of `embed` do.
 #![tactic(auto)]
 
-mod clean;
-mod record;
-mod step;
+pub mod clean;
+pub mod record;
+pub mod step;
