@@ -2,6 +2,7 @@
 use mathlib.Core.Path.{sym, ap, ◌∙◌}
 use lib.ListN.{take}
 use lib.Seq.{length-take-le}
+use borrow.Author.Rules.{rules}
 use Rattle.controller.proofs.Refusals.{by_why, fits_none}
 use Rattle.layout.specs.Layout.{decoded}
 use Rattle.session.specs.Session.{world}
@@ -38,7 +39,7 @@ returns c =
     let a = c.args in
     audit_done a.state.now a.rom.now a.ram.now a.store.now a.image.now a.book.now a.line.now a.out.now
     p.new.state p.new.ram p.new.store p.new.image p.new.book p.new.line p.new.out
-    (λ i. (c.slice_known-10-1.given i).fits) p.ensures.1 c.judge_audit-verdict.result c.judge_audit-verdict.ensures c.in_default.is
+    (λ i. search rules) p.ensures.1 c.judge_audit-verdict.result c.judge_audit-verdict.ensures c.in_default.is
     (take k.result a.piece.now) a.piece.now p.result c.pack.result p.ensures.0 k.ensures.0 c.pack.ensures
 
 pub slice_bounds-piece_audited-end : goal.slice_bounds-piece_audited-end

@@ -1,5 +1,6 @@
 -- `ledger::gulxinett_audit_end` meets its contract: it is judged, and then the recording is ended. Assumes nothing.
 use mathlib.Core.Path.{ap, ◌∙◌}
+use borrow.Author.Rules.{rules}
 use Rattle.controller.proofs.Refusals.{by_why, fits_none}
 use Rattle.ledger.specs.Audits.{auditing}
 use Rattle.ledger.proofs.Audits.{fits_sizes, audit_fits, end_refuses, end_done}
@@ -23,5 +24,5 @@ returns c =
     let a = c.args in
     end_done a.state.now a.rom.now a.ram.now a.store.now a.image.now a.book.now a.line.now a.out.now
     p.new.state p.new.ram p.new.store p.new.image p.new.book a.line.now p.new.out
-    (λ i. (c.slice_known-8-1.given i).fits) p.ensures.2 c.judge_audit-verdict.result c.judge_audit-verdict.ensures c.in_default.is
+    (λ i. search rules) p.ensures.2 c.judge_audit-verdict.result c.judge_audit-verdict.ensures c.in_default.is
     p.result c.pack.result p.ensures.0 p.ensures.1 c.pack.ensures
