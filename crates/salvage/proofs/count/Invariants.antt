@@ -1,5 +1,5 @@
 -- The invariant of `salvage::count`: the bytes counted and those left are all. Assumes nothing.
-use lib.ListN.{length, drop}
+use lib.ListN.{drop}
 use Prim.Native.Nat.{◌≤◌, ◌+◌}
 use mathlib.Core.Path.{◌≡◌}
 use Rattle.salvage.specs.Counted.{counted}
