@@ -38,7 +38,7 @@ use Rattle.audited.specs.Sessions.{calls_of, at_reset, left_by, next_event}
 use Rattle.audited.specs.Told.{Begun, session_before, session_after, counts_since, OneBegun, Started, WholeTold, LandedTold, Landing, FirstLanding, LastLanding, landings, TouchedTold}
 use Rattle.audited.proofs.Sessions.{line_found, audit_found, world_append, world_more, book_append, book_more, calls_append, calls_more, Cut, cut, write_is, lines_bytes}
 use Rattle.audited.proofs.Summed.{row_counted}
-use Rattle.audited.proofs.Writes.{Long, long_line, long_all, no_reset, none_landed, left_none, Found-landing, First, first_landed, Last, some_last, all_lines, writes_counted, start_none, lands_write}
+use Rattle.audited.proofs.Writes.{Long, long_line, long_all, no_reset, none_landed, left_none, FoundLanding, First, first_landed, Last, some_last, all_lines, writes_counted, start_none, lands_write}
 
 -- ---- the serial stays while a capture is held
 
@@ -450,7 +450,7 @@ module _ (rom ram store image : List ℕ) where
             some_then : noted (audit_all rom (session_after the_begun) begun_book c.since).book writes ≡ 0 → ⊥
             some_then z = some (ap (λ (x : List ℕ). noted x writes) (sym book_then) ∙ z)
 
-            of_landing : Found-landing rom (session_after the_begun) begun_book c.since → Landing rom w₀ lines (left_by rom w₀ lines).world.state.started the_begun
+            of_landing : FoundLanding rom (session_after the_begun) begun_book c.since → Landing rom w₀ lines (left_by rom w₀ lines).world.state.started the_begun
             unfolding the_begun
             of_landing f =
                 let e = more_then f.earlier in
@@ -482,7 +482,7 @@ module _ (rom ram store image : List ℕ) where
                   let n : length (c.before ++ (c.line ∷ [])) ≡ length c.before + 1 = length-append c.before (c.line ∷ []) in
                   all_lines rom (c.before ++ (c.line ∷ [])) w₀ new_book refl (omega (arith, n, all_length)) ∙ omega (arith, n)
 
-              number_then : (f : Found-landing rom (session_after the_begun) begun_book c.since) (n : ℕ)
+              number_then : (f : FoundLanding rom (session_after the_begun) begun_book c.since) (n : ℕ)
                   → (noted begun_book book.lines + length c.since ≤ 0xFFFFFFFFFFFFFFFF → n ≡ noted begun_book book.lines + length f.earlier + 1)
                   → length (c.before ++ (c.line ∷ (f.earlier ++ (f.line ∷ [])))) ≡ n
               number_then f n e =

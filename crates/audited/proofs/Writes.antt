@@ -370,7 +370,7 @@ left_none rom (line ∷ rest) w b l h left z =
     ((rw off at (line_writes rom w b line l f.0 f.1)) ∙ z)
 
 -- a line among lines that lands in the area
-pub record Found-landing (rom : List ℕ) (w : World) (b : List ℕ) (lines : List (List ℕ)) : Type 0 where
+pub record FoundLanding (rom : List ℕ) (w : World) (b : List ℕ) (lines : List (List ℕ)) : Type 0 where
   pub earlier : List (List ℕ)
   pub line : List ℕ
   pub later : List (List ℕ)
@@ -381,7 +381,7 @@ pub record Found-landing (rom : List ℕ) (w : World) (b : List ℕ) (lines : Li
 
 -- the first of them, of lines that 64 bits can number
 pub record First (rom : List ℕ) (w : World) (b : List ℕ) (ls : List (List ℕ)) (n : ℕ) : Type 0 where
-  pub landing : Found-landing rom w b ls
+  pub landing : FoundLanding rom w b ls
   pub left : AreaLeft (found w) (calls_of rom w landing.earlier)
   pub number : noted b lines + length ls ≤ 0xFFFFFFFFFFFFFFFF → n ≡ noted b lines + length landing.earlier + 1
 
@@ -396,7 +396,7 @@ first_stays rom (line ∷ ls) w b l h some =
     first_stays rom ls (step_of rom w line).world (audit_of rom w b line).book (long_next rom w b line l) f.2 still ∙ line_first_stays rom w b line l f.0 f.1 some
 
 -- a line that lands in the area, before others
-lands_here : (rom : List ℕ) (w : World) (b line : List ℕ) (ls : List (List ℕ)) → touches (found w) (call_of rom w.image (frame_of line)) ≡ true → Found-landing rom w b (line ∷ ls)
+lands_here : (rom : List ℕ) (w : World) (b line : List ℕ) (ls : List (List ℕ)) → touches (found w) (call_of rom w.image (frame_of line)) ≡ true → FoundLanding rom w b (line ∷ ls)
 unfolding audit_all touches write_seen
 lands_here rom w b line ls t =
     let k = call_of rom w.image (frame_of line) in
@@ -412,7 +412,7 @@ lands_here rom w b line ls t =
     }
 
 -- one after a line
-lands_later : (rom : List ℕ) (w : World) (b line : List ℕ) (ls : List (List ℕ)) → Found-landing rom (step_of rom w line).world (audit_of rom w b line).book ls → Found-landing rom w b (line ∷ ls)
+lands_later : (rom : List ℕ) (w : World) (b line : List ℕ) (ls : List (List ℕ)) → FoundLanding rom (step_of rom w line).world (audit_of rom w b line).book ls → FoundLanding rom w b (line ∷ ls)
 unfolding audit_all audit_of
 lands_later rom w b line ls r =
     record { earlier = line ∷ r.earlier; line = r.line; later = r.later; among = (λ i. line ∷ r.among i); at = r.at; inside = r.inside; lands = r.lands }
@@ -456,7 +456,7 @@ first_landed rom (line ∷ ls) w b l h z some =
 
 -- the last of them
 pub record Last (rom : List ℕ) (w : World) (b : List ℕ) (ls : List (List ℕ)) (n : ℕ) : Type 0 where
-  pub landing : Found-landing rom w b ls
+  pub landing : FoundLanding rom w b ls
   pub left : AreaLeft (found (audit_all rom w b (landing.earlier ++ (landing.line ∷ []))).world) (calls_of rom (audit_all rom w b (landing.earlier ++ (landing.line ∷ []))).world landing.later)
   pub number : noted b lines + length ls ≤ 0xFFFFFFFFFFFFFFFF → n ≡ noted b lines + length landing.earlier + 1
 

@@ -1,4 +1,4 @@
--- The worked history as exported calls: refused ones are among them, and all premises of `end-shown` are met. Assumes nothing.
+-- The worked history as exported calls: refused ones are among them, and all premises of `end_shown_lem` are met. Assumes nothing.
 use mathlib.Core.Path.{◌≡◌, refl, sym, ◌∙◌}
 use mathlib.Core.Bool.{true}
 use mathlib.Core.List.{List, [], ◌∷◌, ◌++◌}

@@ -64,7 +64,7 @@ since (k ∷ cs) t h f g =
     (λ s. let p = was_held t k s held in f p.0 (goes_first t k cs p.1 p.2 goes)))
     (λ before start between e p. g (k ∷ before) start between (ap (λ (l : List Call). k ∷ l) e) p)
 
--- One start: whenever a capture is held, the calls hold its start, and it went on ever since; so by `own-frame` no plate is of two frames
+-- One start: whenever a capture is held, the calls hold its start, and it went on ever since; so by `own_frame` no plate is of two frames
 pub one_start : (ram store : List ℕ) (cs : List Call) → (after (fresh ram store) cs).state.held ≡ true → Begun ram store cs
 unfolding at_reset
 one_start ram store cs h =

@@ -133,7 +133,7 @@ pub record Wrote (k : Call) : Type 0 where
   pub byte : ℕ
   pub is : k ≡ write image address byte
 
--- Only writes: what lands while a capture is held is a write, so placings between a start and its end break no premise of `End-seen` or `half-seen`
+-- Only writes: what lands while a capture is held is a write, so placings between a start and its end break no premise of `end_seen_lem` or `half_seen`
 pub only_writes : (ram store : List ℕ) (calls : List Call) (k : Call) (p : ℕ) → (after (fresh ram store) calls).state.held ≡ true
     → lands_seen (after (fresh ram store) calls) k p ≡ true → Wrote k
 only_writes ram store calls reset p h l = unfold lands_seen goes_in in not_both l refl

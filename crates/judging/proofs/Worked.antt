@@ -1,4 +1,4 @@
--- Worked judgings that meet all premises of `whole`, `two-frames` and `changed_row`, so that nobody doubts that they can be met. Assumes nothing.
+-- Worked judgings that meet all premises of `whole`, `two_frames` and `changed_row`, so that nobody doubts that they can be met. Assumes nothing.
 use mathlib.Core.Path.{◌≡◌, refl, ap}
 use mathlib.Core.Bool.{true}
 use mathlib.Core.List.{List}

@@ -1,5 +1,5 @@
 -- Aside: devices of contracts between functions. Nothing here need be believed: every use of it is tied by a proof to the definitions beside it.
--- Reading a header byte by byte: `Grammar.reads-header` ties it to Header. Assumes nothing.
+-- Reading a header byte by byte: `Grammar.reads_header` ties it to Header. Assumes nothing.
 use Rattle.std.specs.Prelude.{◌≡◌, Bool, true, false, List, [], ◌∷◌, ℕ, zero, suc, ◌+◌, ◌<◌, ◌≤◌, eqb, length, get_or, drop}
 use Rattle.laws.specs.Pick.{pick}
 use Rattle.photos.specs.Header.{is_white, is_end, parts}

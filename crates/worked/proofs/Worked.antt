@@ -1,4 +1,4 @@
--- Worked histories: calls that meet all premises of `cycles`, `picture`, `half-picture`, `outside`, `placed-stays` and `kept_out`, and that are counted, so that nobody doubts that they can be met. Assumes nothing.
+-- Worked histories: calls that meet all premises of `cycles`, `picture`, `half_picture`, `outside`, `placed_stays` and `kept_out`, and that are counted, so that nobody doubts that they can be met. Assumes nothing.
 use mathlib.Core.Path.{◌≡◌, refl, sym, ap, ◌∙◌}
 use mathlib.Core.Bool.{true, false}
 use mathlib.Core.List.{List, [], ◌∷◌, ◌++◌}

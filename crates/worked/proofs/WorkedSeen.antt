@@ -1,4 +1,4 @@
--- The end of the worked history is seen, and all premises of `end_seen` are met. Assumes nothing.
+-- The end of the worked history is seen, and all premises of `end_seen_lem` are met. Assumes nothing.
 use mathlib.Core.Path.{◌≡◌, refl, sym, ◌∙◌}
 use mathlib.Core.Bool.{true}
 use mathlib.Core.List.{List, [], ◌∷◌, ◌++◌}
