@@ -29,6 +29,7 @@ use Rattle.cartridge.specs.Bus.{is_start, capture_written, store_written}
 use Rattle.capture.proofs.Ticks.{rest}
 use Rattle.plates.specs.Grey.{header}
 use Rattle.readings.specs.Readings.{reading, readings_of}
+use Rattle.readings.proofs.Before.{cycle_before}
 
 -- ---- the old meaning: an image in the store, lit by the registers taken
 
@@ -37,9 +38,6 @@ picture_before store regs = picture_of (lit_of store (setting_of regs)) regs
 
 abbrev pub pixels_before : List ℕ → List ℕ → ℕ → ℕ → List ℕ → List ℕ
 pixels_before store regs from to ram = pixels (lit_of store (setting_of regs)) regs from to ram
-
-abbrev pub cycle_before : List ℕ → Ticking → Ticking
-cycle_before store w = cycle (lit_of store (setting_of w.state.taken)) w
 
 abbrev pub ticks_before : List ℕ → ℕ → Ticking → Ticking
 ticks_before store n w = iter (cycle_before store) n w
