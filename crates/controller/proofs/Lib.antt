@@ -4,4 +4,5 @@ pub mod Exists
 pub mod First
 pub mod Only
 pub mod Refusals
+pub mod Judging
 pub mod Afresh

@@ -2,14 +2,11 @@
 use Rattle.std.proofs.Common.{◌≡◌, ℕ, zero, suc, Bool, true, false, List, sym, refl, ap, ◌∙◌, arith}
 use Rattle.controller.specs.declared.Refusal.{Refusal}
 use Rattle.controller.specs.declared.Refusal.TheVariants.{State, Rom, Ram, Frame, Address, Line, Room, File, Choice, Held, NotHeld, Script}
-use Rattle.controller.specs.declared.ReadAnswer.{ReadAnswer}
-use Rattle.controller.specs.declared.ReadAnswer.TheVariants as reads
-use Rattle.controller.specs.declared.WriteAnswer.{WriteAnswer}
-use Rattle.controller.specs.declared.WriteAnswer.TheVariants as writes
-use Rattle.controller.specs.declared.TickAnswer.{TickAnswer}
-use Rattle.controller.specs.declared.TickAnswer.TheVariants as ticks
 use Rattle.controller.specs.declared.Element.{Element}
-use Rattle.controller.specs.declared.Element.TheVariants as elements
+use Rattle.std.specs.Prelude.{⊤, Some, None, Ok, Err}
+use Rattle.std.specs.declared.option.Option.{Option}
+use Rattle.std.specs.declared.result.Result.{Result}
+use Rattle.timing.specs.declared.Cycles.{Cycles}
 use Rattle.controller.specs.declared.ReadDone.{ReadDone}
 use Rattle.controller.specs.declared.WriteDone.{WriteDone}
 use Rattle.controller.specs.declared.TickDone.{TickDone}
@@ -64,23 +61,23 @@ some_number Held e = omega arith
 some_number NotHeld e = omega arith
 some_number Script e = omega arith
 
-read_answer : (a b : ReadAnswer) → read_number a ≡ read_number b → read_value a ≡ read_value b → a ≡ b
-read_answer (reads.Byte x) (reads.Byte y) n v = ap reads.Byte v
-read_answer (reads.Byte x) (reads.Refused s) n v = absurd (some_number s n)
-read_answer (reads.Refused r) (reads.Byte y) n v = absurd (some_number r (sym n))
-read_answer (reads.Refused r) (reads.Refused s) n v = ap reads.Refused (only_number r s n)
+read_answer : (a b : Result ℕ Refusal) → read_number a ≡ read_number b → read_value a ≡ read_value b → a ≡ b
+read_answer (Ok x) (Ok y) n v = ap Ok v
+read_answer (Ok x) (Err s) n v = absurd (some_number s n)
+read_answer (Err r) (Ok y) n v = absurd (some_number r (sym n))
+read_answer (Err r) (Err s) n v = ap Err (only_number r s n)
 
-write_answer_lem : (a b : WriteAnswer) → write_number a ≡ write_number b → a ≡ b
-write_answer_lem writes.Done writes.Done n = refl
-write_answer_lem writes.Done (writes.Refused s) n = absurd (some_number s n)
-write_answer_lem (writes.Refused r) writes.Done n = absurd (some_number r (sym n))
-write_answer_lem (writes.Refused r) (writes.Refused s) n = ap writes.Refused (only_number r s n)
+write_answer_lem : (a b : Result ⊤ Refusal) → write_number a ≡ write_number b → a ≡ b
+write_answer_lem (Ok x) (Ok y) n = refl
+write_answer_lem (Ok x) (Err s) n = absurd (some_number s n)
+write_answer_lem (Err r) (Ok y) n = absurd (some_number r (sym n))
+write_answer_lem (Err r) (Err s) n = ap Err (only_number r s n)
 
-tick_answer_lem : (a b : TickAnswer) → tick_number a ≡ tick_number b → tick_value a ≡ tick_value b → a ≡ b
-tick_answer_lem (ticks.Ran x) (ticks.Ran y) n v = λ i. ticks.Ran (record { 0 = v i })
-tick_answer_lem (ticks.Ran x) (ticks.Refused s) n v = absurd (some_number s n)
-tick_answer_lem (ticks.Refused r) (ticks.Ran y) n v = absurd (some_number r (sym n))
-tick_answer_lem (ticks.Refused r) (ticks.Refused s) n v = ap ticks.Refused (only_number r s n)
+tick_answer_lem : (a b : Result Cycles Refusal) → tick_number a ≡ tick_number b → tick_value a ≡ tick_value b → a ≡ b
+tick_answer_lem (Ok x) (Ok y) n v = λ i. Ok (record { 0 = v i })
+tick_answer_lem (Ok x) (Err s) n v = absurd (some_number s n)
+tick_answer_lem (Err r) (Ok y) n v = absurd (some_number r (sym n))
+tick_answer_lem (Err r) (Err s) n v = ap Err (only_number r s n)
 
 -- a read: one answer and one state
 pub only_read : (r s : ReadDone) (ram ram' : List ℕ) → read_outcome r ram ≡ read_outcome s ram' → (r ≡ s) × (ram ≡ ram')
@@ -108,13 +105,13 @@ one_zero e = let z : ◌≡◌ {A = ℕ} 0 1 = ap (λ b. to_n b) e in omega arit
     to_n false = 1
 
 -- an inspection: one element
-pub only_inspect : (a b : Element) → inspection a ≡ inspection b → a ≡ b
-only_inspect (elements.At r c) (elements.At s d) e = λ i. elements.At (e i).row (e i).column
-only_inspect (elements.At r c) elements.Level e = absurd (one_zero (λ i. (e i).found))
-only_inspect (elements.At r c) (elements.Refused n) e = absurd (one_zero (λ i. (e i).found))
-only_inspect elements.Level (elements.At s d) e = absurd (one_zero (sym (λ i. (e i).found)))
-only_inspect elements.Level elements.Level e = refl
-only_inspect elements.Level (elements.Refused n) e = absurd (some_number n (λ i. (e i).number))
-only_inspect (elements.Refused n) (elements.At s d) e = absurd (one_zero (sym (λ i. (e i).found)))
-only_inspect (elements.Refused n) elements.Level e = absurd (some_number n (sym (λ i. (e i).number)))
-only_inspect (elements.Refused n) (elements.Refused m) e = ap elements.Refused (only_number n m (λ i. (e i).number))
+pub only_inspect : (a b : Result (Option Element) Refusal) → inspection a ≡ inspection b → a ≡ b
+only_inspect (Ok (Some x)) (Ok (Some y)) e = λ i. Ok (Some (record { row = (e i).row; column = (e i).column }))
+only_inspect (Ok (Some x)) (Ok None) e = absurd (one_zero (λ i. (e i).found))
+only_inspect (Ok (Some x)) (Err n) e = absurd (one_zero (λ i. (e i).found))
+only_inspect (Ok None) (Ok (Some y)) e = absurd (one_zero (sym (λ i. (e i).found)))
+only_inspect (Ok None) (Ok None) e = refl
+only_inspect (Ok None) (Err n) e = absurd (some_number n (λ i. (e i).number))
+only_inspect (Err n) (Ok (Some y)) e = absurd (one_zero (sym (λ i. (e i).found)))
+only_inspect (Err n) (Ok None) e = absurd (some_number n (sym (λ i. (e i).number)))
+only_inspect (Err n) (Err m) e = ap Err (only_number n m (λ i. (e i).number))

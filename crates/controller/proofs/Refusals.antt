@@ -11,8 +11,8 @@ use Rattle.lighting.specs.Light.{lit_of}
 use Rattle.tiles.specs.Picture.{picture_of}
 use Rattle.controller.specs.declared.Controller.{Controller}
 use Rattle.controller.specs.declared.Refusal.{Refusal}
-use Rattle.controller.specs.declared.Verdict.{Verdict}
-use Rattle.controller.specs.declared.Verdict.TheVariants as verdicts
+use Rattle.std.specs.Prelude.{⊤, Ok, Err}
+use Rattle.std.specs.declared.result.Result.{Result}
 use Rattle.timing.specs.Lent.{frame_allowed}
 use Rattle.controller.specs.Outcome.{Outcome, Inspection, number_of, verdict_number}
 use Rattle.controller.specs.Table.{Row, lowest, judged}
@@ -123,12 +123,12 @@ judged_pick f (suc n) done x e = rw (ne_eqb (suc n) 0 (λ q. omega arith)) (e (s
 
 -- ---- what a verdict tells
 
-pub fits_none : (rows : List Row) (v : Verdict) → verdict_number v ≡ lowest rows → v ≡ verdicts.Fits → lowest rows ≡ 0
-fits_none rows v e f = sym e ∙ ap verdict_number f
+pub fits_none : (rows : List Row) (v : Result ⊤ Refusal) → verdict_number v ≡ lowest rows → {x : ⊤} → v ≡ Ok x → lowest rows ≡ 0
+fits_none rows v e {x} f = sym e ∙ ap verdict_number f
 
-module _ {O : Type 0} {rows : List Row} {number : O → ℕ} {refused : ℕ → O} {o done : O} (r : Refuses rows number refused o done) (v : Verdict) (e : verdict_number v ≡ lowest rows) where
+module _ {O : Type 0} {rows : List Row} {number : O → ℕ} {refused : ℕ → O} {o done : O} (r : Refuses rows number refused o done) (v : Result ⊤ Refusal) (e : verdict_number v ≡ lowest rows) where
   -- a refused call
-  pub by_why : (why : Refusal) → v ≡ verdicts.Refused why → refused (number_of why) ≡ o
+  pub by_why : (why : Refusal) → v ≡ Err why → refused (number_of why) ≡ o
   by_why why f = at_number (number_of why) (some_number why) (sym e ∙ ap verdict_number f)
     where
       at_number : (n : ℕ) → (0 ≡ n → ⊥) → lowest rows ≡ n → refused n ≡ o
@@ -136,8 +136,8 @@ module _ {O : Type 0} {rows : List Row} {number : O → ℕ} {refused : ℕ → 
       at_number (suc n) z h = sym (r.kept n h)
 
   -- one that fits
-  pub by_fits : v ≡ verdicts.Fits → done ≡ o
-  by_fits f = sym (r.does (fits_none rows v e f))
+  pub by_fits : {x : ⊤} → v ≡ Ok x → done ≡ o
+  by_fits {x} f = sym (r.does (fits_none rows v e f))
 
 -- ---- each call
 

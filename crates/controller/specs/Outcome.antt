@@ -1,18 +1,12 @@
 -- A call's whole outcome, and the paper's number and values for each case of each answer. Assumes nothing.
-use Rattle.std.specs.Prelude.{ℕ, Bool, true, false, List, []}
+use Rattle.std.specs.Prelude.{ℕ, Bool, true, false, List, [], ⊤, Some, None, Ok, Err}
+use Rattle.std.specs.declared.option.Option.{Option}
+use Rattle.std.specs.declared.result.Result.{Result}
+use Rattle.timing.specs.declared.Cycles.{Cycles}
 use Rattle.controller.specs.declared.Controller.{Controller}
 use Rattle.controller.specs.declared.Refusal.{Refusal}
 use Rattle.controller.specs.declared.Refusal.TheVariants.{State, Rom, Ram, Frame, Address, Line, Room, File, Choice, Held, NotHeld, Script}
-use Rattle.controller.specs.declared.Verdict.{Verdict}
-use Rattle.controller.specs.declared.Verdict.TheVariants as verdicts
-use Rattle.controller.specs.declared.ReadAnswer.{ReadAnswer}
-use Rattle.controller.specs.declared.ReadAnswer.TheVariants as reads
-use Rattle.controller.specs.declared.WriteAnswer.{WriteAnswer}
-use Rattle.controller.specs.declared.WriteAnswer.TheVariants as writes
-use Rattle.controller.specs.declared.TickAnswer.{TickAnswer}
-use Rattle.controller.specs.declared.TickAnswer.TheVariants as ticks
 use Rattle.controller.specs.declared.Element.{Element}
-use Rattle.controller.specs.declared.Element.TheVariants as elements
 use Rattle.controller.specs.declared.ReadDone.{ReadDone}
 use Rattle.controller.specs.declared.WriteDone.{WriteDone}
 use Rattle.controller.specs.declared.TickDone.{TickDone}
@@ -34,9 +28,9 @@ number_of NotHeld = 11
 number_of Script = 12
 
 -- what judging a call comes to, as a number: 0 where it fits
-abbrev pub verdict_number : Verdict → ℕ
-verdict_number verdicts.Fits = 0
-verdict_number (verdicts.Refused n) = number_of n
+abbrev pub verdict_number : Result ⊤ Refusal → ℕ
+verdict_number (Ok _) = 0
+verdict_number (Err n) = number_of n
 
 -- refusal number (0: none), value (byte or count), state, RAM, frame store; what a call is not lent is the empty list
 pub record Outcome : Type 0 where
@@ -54,33 +48,33 @@ abbrev pub refusal : Controller → List ℕ → List ℕ → ℕ → Outcome
 refusal c ram store n = outcome n 0 c ram store
 
 -- A refused read returns byte 00
-abbrev pub read_number : ReadAnswer → ℕ
-read_number (reads.Byte b) = 0
-read_number (reads.Refused n) = number_of n
+abbrev pub read_number : Result ℕ Refusal → ℕ
+read_number (Ok b) = 0
+read_number (Err n) = number_of n
 
-abbrev pub read_value : ReadAnswer → ℕ
-read_value (reads.Byte b) = b
-read_value (reads.Refused n) = 0
+abbrev pub read_value : Result ℕ Refusal → ℕ
+read_value (Ok b) = b
+read_value (Err n) = 0
 
 abbrev pub read_outcome : ReadDone → List ℕ → Outcome
 read_outcome r ram = outcome (read_number r.answer) (read_value r.answer) r.state ram []
 
 -- a write returns nothing but its number
-abbrev pub write_number : WriteAnswer → ℕ
-write_number writes.Done = 0
-write_number (writes.Refused n) = number_of n
+abbrev pub write_number : Result ⊤ Refusal → ℕ
+write_number (Ok _) = 0
+write_number (Err n) = number_of n
 
 abbrev pub write_outcome : WriteDone → List ℕ → List ℕ → Outcome
 write_outcome r ram store = outcome (write_number r.answer) 0 r.state ram store
 
 -- a refused tick 0 cycles
-abbrev pub tick_number : TickAnswer → ℕ
-tick_number (ticks.Ran n) = 0
-tick_number (ticks.Refused n) = number_of n
+abbrev pub tick_number : Result Cycles Refusal → ℕ
+tick_number (Ok n) = 0
+tick_number (Err n) = number_of n
 
-abbrev pub tick_value : TickAnswer → ℕ
-tick_value (ticks.Ran n) = n.0
-tick_value (ticks.Refused n) = 0
+abbrev pub tick_value : Result Cycles Refusal → ℕ
+tick_value (Ok n) = n.0
+tick_value (Err n) = 0
 
 abbrev pub tick_outcome : TickDone → List ℕ → List ℕ → Outcome
 tick_outcome r ram store = outcome (tick_number r.answer) (tick_value r.answer) r.state ram store
@@ -92,7 +86,7 @@ pub record Inspection : Type 0 where
   pub row : ℕ
   pub column : ℕ
 
-abbrev pub inspection : Element → Inspection
-inspection (elements.At row column) = record { number = 0; found = true; row = row; column = column }
-inspection elements.Level = record { number = 0; found = false; row = 0; column = 0 }
-inspection (elements.Refused n) = record { number = number_of n; found = false; row = 0; column = 0 }
+abbrev pub inspection : Result (Option Element) Refusal → Inspection
+inspection (Ok (Some e)) = record { number = 0; found = true; row = e.row; column = e.column }
+inspection (Ok None) = record { number = 0; found = false; row = 0; column = 0 }
+inspection (Err n) = record { number = number_of n; found = false; row = 0; column = 0 }

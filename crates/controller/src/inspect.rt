@@ -3,22 +3,22 @@ ghost use Rattle.std.specs.Prelude.{◌≡◌};
 ghost use Rattle.controller.specs.Outcome.{inspection};
 ghost use Rattle.controller.specs.Inspect.{inspect_means};
 
-use super::{Controller, Element, Verdict};
+use super::{Controller, Element, Refusal};
 
 impl Controller {
-    // The first reversed element of the current registers.
-    pub fn inspect(self) -> Element
+    // The first reversed element of the current registers, if there is one.
+    pub fn inspect(self) -> Result<Option<Element>, Refusal>
         ensures { inspection result ≡ inspect_means self }
     {
-        let verdict = self.no_state(Verdict::Fits);
-        if let Verdict::Refused(why) = verdict {
-            return Element::Refused(why);
-        }
+        self.no_state()?;
         let regs = self.registers;
         let first = matrix::first_reversed(&regs);
         if 16 <= first {
-            return Element::Level;
+            return Ok(None);
         }
-        Element::At((first / 4) as u8, (first % 4) as u8)
+        Ok(Some(Element {
+            row: (first / 4) as u8,
+            column: (first % 4) as u8,
+        }))
     }
 }

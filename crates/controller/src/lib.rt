@@ -24,7 +24,7 @@ pub struct Controller {
 }
 
 // Refusals, by what can't exist, is not allowed, is too short or is held.
-#[derive(Clone, Copy)]
+#[derive(Clone, Copy, Debug, PartialEq, Eq)]
 pub enum Refusal {
     State,
     Rom,
@@ -40,54 +40,28 @@ pub enum Refusal {
     Script,
 }
 
-// What judging a call comes to.
-#[derive(Clone, Copy)]
-pub enum Verdict {
-    Fits,
-    Refused(Refusal),
-}
-
-#[derive(Clone, Copy)]
-pub enum ReadAnswer {
-    Byte(u8),
-    Refused(Refusal),
-}
-
-#[derive(Clone, Copy)]
-pub enum WriteAnswer {
-    Done,
-    Refused(Refusal),
-}
-
-#[derive(Clone, Copy)]
-pub enum TickAnswer {
-    Ran(Cycles),
-    Refused(Refusal),
-}
-
 // An element of the matrix, by its row and column.
-#[derive(Clone, Copy)]
-pub enum Element {
-    At(u8, u8),
-    Level,
-    Refused(Refusal),
+#[derive(Clone, Copy, Debug, PartialEq, Eq)]
+pub struct Element {
+    pub row: u8,
+    pub column: u8,
 }
 
-// The state handed back, and the answer.
+// The state handed back, and the answer: the byte, nothing, or how many cycles ran; or why it is refused.
 #[derive(Clone, Copy)]
 pub struct ReadDone {
     pub state: Controller,
-    pub answer: ReadAnswer,
+    pub answer: Result<u8, Refusal>,
 }
 
 #[derive(Clone, Copy)]
 pub struct WriteDone {
     pub state: Controller,
-    pub answer: WriteAnswer,
+    pub answer: Result<(), Refusal>,
 }
 
 #[derive(Clone, Copy)]
 pub struct TickDone {
     pub state: Controller,
-    pub answer: TickAnswer,
+    pub answer: Result<Cycles, Refusal>,
 }

@@ -1,5 +1,5 @@
 // The state record: reset, the paper's figures, and which records can exist.
-ghost use Rattle.std.specs.Prelude.{◌≡◌, true, false, not, length};
+ghost use Rattle.std.specs.Prelude.{◌≡◌, true, false, not};
 ghost use Rattle.controller.specs.State.{one_more, reset_state, left_over, wrong_capture, can_exist};
 ghost use Rattle.controller.specs.Aside.{seen};
 
@@ -10,7 +10,7 @@ use timing::{Cycles, all_zero, total};
 pub fn one_more(n: u16) -> u16
     ensures { result ≡ one_more n }
 {
-    std::num::wrapping_add_u16(n, 1)
+    n.wrapping_add(1)
 }
 
 impl Controller {
@@ -52,21 +52,19 @@ impl Controller {
     pub fn exists(self) -> bool
         ensures { result ≡ can_exist self }
     {
-        let taken = self.taken;
         can_exist(
             self.bank,
             self.select,
             self.registers[0],
             self.held,
             self.elapsed,
-            &taken,
+            &self.taken,
         )
     }
 }
 
 // Whether a held capture can exist: taken register 0 is odd and at most 7, and elapsed is below its total.
-fn holds_capture(elapsed: Cycles, taken: &[u8]) -> bool
-    requires { length taken.now ≡ 54 }
+fn holds_capture(elapsed: Cycles, taken: &[u8; 54]) -> bool
     ensures { result ≡ not (wrong_capture (seen 0 0 0 true elapsed taken.now)) }
 {
     let first = taken[0];
@@ -81,8 +79,7 @@ fn holds_capture(elapsed: Cycles, taken: &[u8]) -> bool
 }
 
 // Whether nothing is left over where no capture is held.
-fn holds_nothing(elapsed: Cycles, taken: &[u8]) -> bool
-    requires { length taken.now ≡ 54 }
+fn holds_nothing(elapsed: Cycles, taken: &[u8; 54]) -> bool
     ensures { result ≡ not (left_over (seen 0 0 0 false elapsed taken.now)) }
 {
     if elapsed.0 != 0 {
@@ -93,8 +90,14 @@ fn holds_nothing(elapsed: Cycles, taken: &[u8]) -> bool
 
 // Whether a record can exist, by all that is asked of it: ROM bank, select, register 0, the capture held.
 #[tactic(auto, using(crate::proofs::Records::held_only, crate::proofs::Records::none_only), unfolding(crate::specs::State::cant_exist))]
-pub fn can_exist(bank: u8, select: u8, first: u8, held: bool, elapsed: Cycles, taken: &[u8]) -> bool
-    requires { length taken.now ≡ 54 }
+pub fn can_exist(
+    bank: u8,
+    select: u8,
+    first: u8,
+    held: bool,
+    elapsed: Cycles,
+    taken: &[u8; 54],
+) -> bool
     ensures { result ≡ can_exist (seen bank select first held elapsed taken.now) }
 {
     if 63 < bank {
