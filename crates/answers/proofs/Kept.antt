@@ -10,7 +10,7 @@ use Rattle.controller.specs.Outcome.{Outcome, outcome, number_of, refusal}
 use Rattle.controller.specs.Table.{Row}
 use Rattle.controller.proofs.Only.{some_number}
 use Rattle.controller.proofs.Refusals.{Refuses, in_outcome}
-use Rattle.shades.specs.declared.Output.{Output}
+use Rattle.std.specs.declared.result.Result.{Result}
 use Rattle.shades.specs.Shades.{Exported, exported, output_number, output_value}
 use Rattle.layout.specs.Layout.{encoded, is_record, decoded}
 use Rattle.answers.specs.Packed.{packed}
@@ -36,7 +36,7 @@ module _ (s ram store : List ℕ) (bytes : Bytes s) (h : is_record s ≡ true) {
       ∙ sym (ap as_bytes k ∙ ap (λ t. called (packed (number_of why) 0) t ram store) (encode_decode s bytes h))
 
 -- bytes written into a lent buffer
-pub written : (m : Exported) (r : Output) (left : List ℕ) → exported (output_number r) (output_value r) left ≡ m → (p : ℕ) → p ≡ packed (output_number r) (output_value r) → filled p left ≡ as_written m
+pub written : (m : Exported) (r : Result ℕ Refusal) (left : List ℕ) → exported (output_number r) (output_value r) left ≡ m → (p : ℕ) → p ≡ packed (output_number r) (output_value r) → filled p left ≡ as_written m
 written m r left means p q = (λ i. filled (q i) left) ∙ ap as_written means
 
 pub record Keeps (c : Called) (s m f : List ℕ) : Type 0 where

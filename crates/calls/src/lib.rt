@@ -14,7 +14,7 @@ ghost use Rattle.capture.specs.Capture.{running, ticks, from};
 ghost use Rattle.capture.specs.Calls.{tick_rows, ticked, tick_means};
 ghost use Rattle.capture.specs.Aside.{after};
 ghost use Rattle.cartridge.specs.Bus.{control_written, register_written, store_written, capture_written, byte_written};
-ghost use Rattle.cartridge.specs.Calls.{read_means, wrote, write_means};
+ghost use Rattle.cartridge.specs.Calls.{read_rows, read_means, wrote, write_rows, write_means};
 ghost use Rattle.layout.specs.Layout.{is_record, decoded, encoded};
 ghost use Rattle.calls.specs.Aside.{effect, in_bytes};
 
@@ -24,7 +24,7 @@ use cartridge::{
 };
 use controller::judge::refused_if;
 use controller::state::can_exist;
-use controller::{ReadAnswer, Refusal, TickAnswer, Verdict, WriteAnswer};
+use controller::Refusal;
 use layout::{decode, encode, four_at};
 use timing::Cycles;
 
@@ -40,30 +40,36 @@ fn exists(state: &[u8]) -> bool
         state[13],
         state[4] == 1,
         elapsed,
-        &state[67..121],
+        state[67..121].try_into().unwrap(),
     )
 }
 
 // 1: the state record can't exist.
-fn no_state(state: &[u8], rest: Verdict) -> Verdict
+fn no_state(state: &[u8]) -> Result<(), Refusal>
     requires { is_record state.now ≡ true }
-    ensures { verdict_number result ≡ before (no_state (decoded state.now)) (verdict_number rest) }
+    ensures { verdict_number result ≡ before (no_state (decoded state.now)) 0 }
 {
-    refused_if(!exists(state), Refusal::State, rest)
+    refused_if(!exists(state), Refusal::State)
+}
+
+// What a read was lent, judged.
+fn judge_read(state: &[u8], rom: &[u8], ram: &[u8], address: u16) -> Result<(), Refusal>
+    requires { is_record state.now ≡ true }
+    ensures { verdict_number result ≡ lowest (read_rows (decoded state.now) rom.now ram.now address) }
+{
+    no_state(state)?;
+    lent_to_read(rom, ram, address)
 }
 
 // A read: lent ROM and RAM.
-pub fn read(state: &[u8], rom: &[u8], ram: &[u8], address: u16) -> ReadAnswer
+pub fn read(state: &[u8], rom: &[u8], ram: &[u8], address: u16) -> Result<u8, Refusal>
     requires { is_record state.now ≡ true }
     ensures { effect (read_number result) (read_value result) state.now ram.now []
         ≡ in_bytes (read_means (decoded state.now) rom.now ram.now address) }
 {
-    let verdict = no_state(state, lent_to_read(rom, ram, address));
-    if let Verdict::Refused(why) = verdict {
-        return ReadAnswer::Refused(why);
-    }
+    judge_read(state, rom, ram, address)?;
     let byte = byte_read(state[2], state[3], state[13], rom, ram, address);
-    ReadAnswer::Byte(byte)
+    Ok(byte)
 }
 
 // A write below 8000: RAM enable, where 0A enables, 00 disables and other values change nothing; ROM bank; select.
@@ -91,8 +97,8 @@ fn control_write(state: &mut [u8], address: u16, value: u8)
 }
 
 // A write of register 0. A start takes the registers and lights the image into the store.
-fn first_write(state: &mut [u8], store: &mut [u8], image: &[u8], value: u8)
-    requires { (is_record state.old ≡ true) × (length store.old ≡ 16384) × (length image.now ≡ 16384) }
+fn first_write(state: &mut [u8], store: &mut [u8], image: &[u8; 16384], value: u8)
+    requires { (is_record state.old ≡ true) × (length store.old ≡ 16384) }
     ensures { (state.new ≡ encoded (capture_written (decoded state.old) value))
         × (store.new ≡ store_written (decoded state.old) store.old image.now 0 value) }
 {
@@ -105,8 +111,14 @@ fn first_write(state: &mut [u8], store: &mut [u8], image: &[u8], value: u8)
 }
 
 // A write of a register: 1 to 53 are always writable, 54 to 127 ignore writes.
-fn register_write(state: &mut [u8], store: &mut [u8], image: &[u8], number: usize, value: u8)
-    requires { (is_record state.old ≡ true) × (length store.old ≡ 16384) × (length image.now ≡ 16384) }
+fn register_write(
+    state: &mut [u8],
+    store: &mut [u8],
+    image: &[u8; 16384],
+    number: usize,
+    value: u8,
+)
+    requires { (is_record state.old ≡ true) × (length store.old ≡ 16384) }
     ensures { (state.new ≡ encoded (register_written (decoded state.old) number value))
         × (store.new ≡ store_written (decoded state.old) store.old image.now number value) }
 {
@@ -124,11 +136,11 @@ fn byte_write(
     state: &mut [u8],
     ram: &mut [u8],
     store: &mut [u8],
-    image: &[u8],
+    image: &[u8; 16384],
     address: u16,
     value: u8,
 )
-    requires { (is_record state.old ≡ true) × (ram_allowed (length ram.old) ≡ true) × (length store.old ≡ 16384) × (length image.now ≡ 16384) }
+    requires { (is_record state.old ≡ true) × (ram_allowed (length ram.old) ≡ true) × (length store.old ≡ 16384) }
     ensures { effect 0 0 state.new ram.new store.new
         ≡ in_bytes (wrote (byte_written (decoded state.old) ram.old store.old image.now address value)) }
 {
@@ -144,6 +156,22 @@ fn byte_write(
     ram_write(state[1] == 1, select, state[13], ram, address, value);
 }
 
+// What a write was lent, judged.
+fn judge_write(
+    state: &[u8],
+    ram: &[u8],
+    store: &[u8],
+    image: &[u8],
+    address: u16,
+) -> Result<(), Refusal>
+    requires { is_record state.now ≡ true }
+    ensures { verdict_number result
+        ≡ lowest (write_rows (decoded state.now) ram.now store.now image.now address) }
+{
+    no_state(state)?;
+    lent_to_write(ram, store, image, address)
+}
+
 // A write: lent RAM, frame store and image.
 pub fn write(
     state: &mut [u8],
@@ -152,29 +180,26 @@ pub fn write(
     image: &[u8],
     address: u16,
     value: u8,
-) -> WriteAnswer
+) -> Result<(), Refusal>
     requires { is_record state.old ≡ true }
     ensures { effect (write_number result) 0 state.new ram.new store.new
         ≡ in_bytes (write_means (decoded state.old) ram.old store.old image.now address value) }
 {
-    let verdict = no_state(state, lent_to_write(ram, store, image, address));
-    if let Verdict::Refused(why) = verdict {
-        return WriteAnswer::Refused(why);
-    }
-    byte_write(state, ram, store, image, address, value);
-    WriteAnswer::Done
+    judge_write(state, ram, store, image, address)?;
+    byte_write(state, ram, store, image.try_into().unwrap(), address, value);
+    Ok(())
 }
 
 // Puts what some cycles of a running capture leave: its end, or its elapsed cycles.
 fn leave(state: &mut [u8], passed: Passed)
     requires { is_record state.old ≡ true }
-    ensures { state.new ≡ encoded (after passed.over passed.elapsed.0 (decoded state.old)) }
+    ensures { state.new ≡ encoded (after passed.elapsed (decoded state.old)) }
 {
-    if passed.over {
+    let Some(elapsed) = passed.elapsed else {
         encode(at_end(decode(state)), state);
         return;
-    }
-    let e = passed.elapsed.0;
+    };
+    let e = elapsed.0;
     state[5] = (e % 256) as u8;
     state[6] = (e / 256 % 256) as u8;
     state[7] = (e / 65536 % 256) as u8;
@@ -182,11 +207,12 @@ fn leave(state: &mut [u8], passed: Passed)
 }
 
 // What a tick was lent, judged.
-pub fn judge_tick(state: &[u8], ram: &[u8], store: &[u8]) -> Verdict
+pub fn judge_tick(state: &[u8], ram: &[u8], store: &[u8]) -> Result<(), Refusal>
     requires { is_record state.now ≡ true }
     ensures { verdict_number result ≡ lowest (tick_rows (decoded state.now) ram.now store.now) }
 {
-    no_state(state, lent_to_tick(ram, store))
+    no_state(state)?;
+    lent_to_tick(ram, store)
 }
 
 // Whether a capture is running: cycles while none is change nothing.
@@ -198,30 +224,27 @@ pub fn runs(state: &[u8]) -> bool
 }
 
 // n cycles of a running capture: how many of them ran.
-pub fn run(state: &mut [u8], ram: &mut [u8], store: &[u8], n: u32) -> u32
+pub fn run(state: &mut [u8], ram: &mut [u8], store: &[u8; 16384], n: u32) -> u32
     requires { (is_record state.old ≡ true) × (running (decoded state.old) ≡ true)
-        × ((decoded state.old).elapsed.0 < total_of (decoded state.old).taken) × (8192 ≤ length ram.old) × (length store.now ≡ 16384) }
+        × ((decoded state.old).elapsed.0 < total_of (decoded state.old).taken) × (8192 ≤ length ram.old) }
     ensures { effect 0 result state.new ram.new store.now
         ≡ in_bytes (ticked store.now (ticks (byte_at store.now) n (from (decoded state.old) ram.old))) }
 {
     let elapsed = Cycles(four_at(state, 5));
-    let passed = pass(&state[67..], elapsed, ram, store, n);
+    let passed = pass(state[67..].try_into().unwrap(), elapsed, ram, store, n);
     leave(state, passed);
     passed.ran
 }
 
 // A tick of n cycles: lent RAM and frame store. It answers how many of them fell while a capture was running.
-pub fn tick(state: &mut [u8], ram: &mut [u8], store: &[u8], n: u32) -> TickAnswer
+pub fn tick(state: &mut [u8], ram: &mut [u8], store: &[u8], n: u32) -> Result<Cycles, Refusal>
     requires { is_record state.old ≡ true }
     ensures { effect (tick_number result) (tick_value result) state.new ram.new store.now
         ≡ in_bytes (tick_means (decoded state.old) ram.old store.now n) }
 {
-    let verdict = judge_tick(state, ram, store);
-    if let Verdict::Refused(why) = verdict {
-        return TickAnswer::Refused(why);
-    }
+    judge_tick(state, ram, store)?;
     if !runs(state) {
-        return TickAnswer::Ran(Cycles(0));
+        return Ok(Cycles(0));
     }
-    TickAnswer::Ran(Cycles(run(state, ram, store, n)))
+    Ok(Cycles(run(state, ram, store.try_into().unwrap(), n)))
 }

@@ -4,7 +4,9 @@ use mathlib.Core.Bool.{Bool, true, false}
 use mathlib.Core.List.{List}
 use Prim.Native.Nat.{ℕ, ◌+◌, ◌-◌, ◌<◌, ◌≤◌}
 use Rattle.controller.specs.declared.Controller.{Controller}
-use Rattle.controller.specs.declared.Verdict.{Verdict}
+use Rattle.std.specs.declared.result.Result.{Result}
+use Rattle.controller.specs.declared.Refusal.{Refusal}
+use Rattle.std.specs.Prelude.{⊤}
 use Rattle.controller.specs.Outcome.{Outcome, outcome, verdict_number}
 use Rattle.controller.specs.Table.{no_state, before, lowest}
 use Rattle.tiles.specs.Aside.{pixels}
@@ -29,6 +31,6 @@ pub put_in : (c s : Controller) (over b : Bool) (e : ℕ) {v : ℕ} {ram store :
 put_in c s over b e p q h = rw (p, sym q) h
 
 -- a verdict with the row of the state before those of what a tick is lent
-pub tick_judged : (c : Controller) (ram store : List ℕ) (v w : Verdict) → verdict_number v ≡ before (no_state c) (verdict_number w) → verdict_number w ≡ lowest (lent_to_tick ram store) → verdict_number v ≡ lowest (tick_rows c ram store)
+pub tick_judged : (c : Controller) (ram store : List ℕ) (v w : Result ⊤ Refusal) → verdict_number v ≡ before (no_state c) (verdict_number w) → verdict_number w ≡ lowest (lent_to_tick ram store) → verdict_number v ≡ lowest (tick_rows c ram store)
 unfolding tick_rows lowest
 tick_judged c ram store v w p q = p ∙ ap (before (no_state c)) q

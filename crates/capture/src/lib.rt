@@ -14,7 +14,7 @@ ghost use Rattle.controller.specs.declared.Controller.{Controller};
 
 use controller::judge::{no_frame, no_ram};
 use controller::state::one_more;
-use controller::{Controller, TickAnswer, TickDone, Verdict};
+use controller::{Controller, Refusal, TickDone};
 use timing::{Cycles, total, write_between};
 
 // A byte with its bit 0 clear.
@@ -63,23 +63,28 @@ fn ran(state: Controller, n: u32) -> TickDone
 {
     TickDone {
         state,
-        answer: TickAnswer::Ran(Cycles(n)),
+        answer: Ok(Cycles(n)),
     }
 }
 
-// What some cycles of a running capture come to: how many of them ran, whether it is over, and the cycles elapsed where it is not.
+// What some cycles of a running capture come to: how many of them ran, and the cycles elapsed where it is not over.
 #[derive(Clone, Copy)]
 pub struct Passed {
     pub ran: u32,
-    pub over: bool,
-    pub elapsed: Cycles,
+    pub elapsed: Option<Cycles>,
 }
 
 // n cycles of a running capture, by the registers it took and its elapsed cycles: their pixels are put.
-pub fn pass(taken: &[u8], elapsed: Cycles, ram: &mut [u8], store: &[u8], n: u32) -> Passed
-    requires { (elapsed.0 < total_of taken.now) × (8192 ≤ length ram.old) × (length store.now ≡ 16384) × (length taken.now ≡ 54) }
+pub fn pass(
+    taken: &[u8; 54],
+    elapsed: Cycles,
+    ram: &mut [u8],
+    store: &[u8; 16384],
+    n: u32,
+) -> Passed
+    requires { (elapsed.0 < total_of taken.now) × (8192 ≤ length ram.old) }
     ensures { (c : Controller) → running c ≡ true → c.elapsed.0 ≡ elapsed.0 → c.taken ≡ taken.now
-        → outcome 0 result.ran (after result.over result.elapsed.0 c) ram.new store.now
+        → outcome 0 result.ran (after result.elapsed c) ram.new store.now
         ≡ ticked store.now (ticks (byte_at store.now) n (from c ram.old)) }
 {
     let all = total(taken);
@@ -89,60 +94,59 @@ pub fn pass(taken: &[u8], elapsed: Cycles, ram: &mut [u8], store: &[u8], n: u32)
         write_between(ram, store, taken, elapsed, then);
         return Passed {
             ran: n,
-            over: false,
-            elapsed: then,
+            elapsed: Some(then),
         };
     }
     write_between(ram, store, taken, elapsed, all);
     Passed {
         ran: left,
-        over: true,
-        elapsed: all,
+        elapsed: None,
     }
 }
 
 // n cycles of a running capture.
-fn run(state: Controller, ram: &mut [u8], store: &[u8], n: u32) -> TickDone
-    requires { (running state ≡ true) × (state.elapsed.0 < total_of state.taken) × (8192 ≤ length ram.old) × (length store.now ≡ 16384) }
+fn run(state: Controller, ram: &mut [u8], store: &[u8; 16384], n: u32) -> TickDone
+    requires { (running state ≡ true) × (state.elapsed.0 < total_of state.taken) × (8192 ≤ length ram.old) }
     ensures { tick_outcome result ram.new store.now
         ≡ ticked store.now (ticks (byte_at store.now) n (from state ram.old)) }
 {
     let taken = state.taken;
     let passed = pass(&taken, state.elapsed, ram, store, n);
-    if passed.over {
-        return ran(at_end(state), passed.ran);
+    match passed.elapsed {
+        Some(elapsed) => ran(moved_to(state, elapsed), passed.ran),
+        None => ran(at_end(state), passed.ran),
     }
-    ran(moved_to(state, passed.elapsed), passed.ran)
 }
 
 // What a tick was lent, judged: all but the state.
-pub fn lent_to_tick(ram: &[u8], store: &[u8]) -> Verdict
+pub fn lent_to_tick(ram: &[u8], store: &[u8]) -> Result<(), Refusal>
     ensures { verdict_number result ≡ lowest (lent_to_tick ram.now store.now) }
 {
-    no_ram(ram.len(), no_frame(store.len(), Verdict::Fits))
+    no_ram(ram.len())?;
+    no_frame(store.len())
 }
 
 // What a tick was lent, judged.
-fn judge_tick(state: Controller, ram: &[u8], store: &[u8]) -> Verdict
+fn judge_tick(state: Controller, ram: &[u8], store: &[u8]) -> Result<(), Refusal>
     ensures { verdict_number result ≡ lowest (tick_rows state ram.now store.now) }
 {
-    state.no_state(lent_to_tick(ram, store))
+    state.no_state()?;
+    lent_to_tick(ram, store)
 }
 
 // A tick of n cycles: lent RAM and frame store. It answers how many of them fell while a capture was running.
 pub fn tick(state: Controller, ram: &mut [u8], store: &[u8], n: u32) -> TickDone
     ensures { tick_outcome result ram.new store.now ≡ tick_means state ram.old store.now n }
 {
-    let verdict = judge_tick(state, ram, store);
-    if let Verdict::Refused(why) = verdict {
+    if let Err(why) = judge_tick(state, ram, store) {
         return TickDone {
             state,
-            answer: TickAnswer::Refused(why),
+            answer: Err(why),
         };
     }
     // Cycles while no capture is running change nothing.
     if !is_running(state.held, state.registers[0]) {
         return ran(state, 0);
     }
-    run(state, ram, store, n)
+    run(state, ram, store.try_into().unwrap(), n)
 }

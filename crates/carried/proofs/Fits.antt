@@ -13,7 +13,7 @@ use Rattle.laws.proofs.Pick.{pick_ind}
 use Rattle.laws.proofs.Bools.{both_left, both_right}
 use Rattle.tiles.specs.Tiles.{Bytes}
 use Rattle.controller.specs.State.{no_registers, reset_state}
-use Rattle.desk.specs.declared.choice.Exposure.{Exposure}
+use Rattle.std.specs.declared.option.Option.{Option}
 use Rattle.desk.specs.Levels.{levels}
 use Rattle.desk.specs.Choice.{steps_of, value_of, stored, timed, registers_chosen}
 use Rattle.desk.proofs.Level.{chosen_length}
@@ -64,9 +64,9 @@ stored_bytes regs from f (suc n) b h = set_bytes (stored regs from f n) (from + 
 -- an exposure that a number names has 16 bits
 exposure_small : (n : ℕ) → steps_of (exposure_in n) < 65536
 unfolding exposure_in
-exposure_small n = pick_ind (λ (e : Exposure). steps_of e < 65536) (ltb 0xFFFF n) (λ _. omega arith) (λ h. omega (arith, ltb-false 0xFFFF n h))
+exposure_small n = pick_ind (λ (e : Option ℕ). steps_of e < 65536) (ltb 0xFFFF n) (λ _. omega arith) (λ h. omega (arith, ltb-false 0xFFFF n h))
 
-chosen_bytes : (light level : ℕ) (plain : Bool) (exposure : Exposure) (regs : List ℕ) → steps_of exposure < 65536 → Bytes regs → Bytes (registers_chosen regs light level plain exposure)
+chosen_bytes : (light level : ℕ) (plain : Bool) (exposure : Option ℕ) (regs : List ℕ) → steps_of exposure < 65536 → Bytes regs → Bytes (registers_chosen regs light level plain exposure)
 unfolding registers_chosen
 chosen_bytes light level plain exposure regs small b =
     stored_bytes (timed regs (steps_of exposure)) 6 (value_of light level plain) 48

@@ -5,7 +5,9 @@ use mathlib.Core.List.{List}
 use Prim.Native.Nat.{ℕ}
 use lib.ListN.{get_or}
 use Rattle.controller.specs.declared.Controller.{Controller}
-use Rattle.controller.specs.declared.Verdict.{Verdict}
+use Rattle.std.specs.declared.result.Result.{Result}
+use Rattle.controller.specs.declared.Refusal.{Refusal}
+use Rattle.std.specs.Prelude.{⊤}
 use Rattle.controller.specs.Outcome.{verdict_number}
 use Rattle.controller.specs.Table.{no_state, before, lowest}
 use Rattle.cartridge.specs.Bus.{rom_read, byte_read, ram_written}
@@ -22,10 +24,10 @@ module _ (c : Controller) where
   faced_write ram a v p q r = λ i. ram_written (facing (p i) 0 (q i) (r i)) ram a v
 
   -- a verdict with the row of the state before those of what is lent
-  pub read_judged : (rom ram : List ℕ) (a : ℕ) (v w : Verdict) → verdict_number v ≡ before (no_state c) (verdict_number w) → verdict_number w ≡ lowest (lent_to_read rom ram a) → verdict_number v ≡ lowest (read_rows c rom ram a)
+  pub read_judged : (rom ram : List ℕ) (a : ℕ) (v w : Result ⊤ Refusal) → verdict_number v ≡ before (no_state c) (verdict_number w) → verdict_number w ≡ lowest (lent_to_read rom ram a) → verdict_number v ≡ lowest (read_rows c rom ram a)
   unfolding read_rows lowest
   read_judged rom ram a v w p q = p ∙ ap (before (no_state c)) q
 
-  pub write_judged : (ram store image : List ℕ) (a : ℕ) (v w : Verdict) → verdict_number v ≡ before (no_state c) (verdict_number w) → verdict_number w ≡ lowest (lent_to_write ram store image a) → verdict_number v ≡ lowest (write_rows c ram store image a)
+  pub write_judged : (ram store image : List ℕ) (a : ℕ) (v w : Result ⊤ Refusal) → verdict_number v ≡ before (no_state c) (verdict_number w) → verdict_number w ≡ lowest (lent_to_write ram store image a) → verdict_number v ≡ lowest (write_rows c ram store image a)
   unfolding write_rows lowest
   write_judged ram store image a v w p q = p ∙ ap (before (no_state c)) q

@@ -11,12 +11,12 @@ ghost use Rattle.cartridge.specs.Bus.{enable, control_written, is_start, capture
 ghost use Rattle.cartridge.specs.Bus.{Left, left};
 ghost use Rattle.capture.specs.Capture.{begun};
 ghost use Rattle.controller.specs.Table.{lowest};
-ghost use Rattle.cartridge.specs.Calls.{read_means, write_means};
+ghost use Rattle.cartridge.specs.Calls.{read_rows, read_means, write_rows, write_means};
 ghost use Rattle.cartridge.specs.Aside.{facing, lent_to_read, lent_to_write};
 
 use controller::judge::{no_frame, no_place, no_ram, no_rom};
 use controller::state::one_more;
-use controller::{Controller, ReadAnswer, ReadDone, Verdict, WriteAnswer, WriteDone};
+use controller::{Controller, ReadDone, Refusal, WriteDone};
 use lighting::{Setting, light_frame};
 use timing::{Cycles, bank_place};
 
@@ -85,22 +85,30 @@ pub fn byte_read(bank: u8, select: u8, first: u8, rom: &[u8], ram: &[u8], addres
 }
 
 // What a read was lent, judged: all but the state.
-pub fn lent_to_read(rom: &[u8], ram: &[u8], address: u16) -> Verdict
+pub fn lent_to_read(rom: &[u8], ram: &[u8], address: u16) -> Result<(), Refusal>
     ensures { verdict_number result ≡ lowest (lent_to_read rom.now ram.now address) }
 {
-    let place = no_place(address, Verdict::Fits);
-    no_rom(rom.len(), no_ram(ram.len(), place))
+    no_rom(rom.len())?;
+    no_ram(ram.len())?;
+    no_place(address)
+}
+
+// What a read was lent, judged.
+fn judge_read(state: Controller, rom: &[u8], ram: &[u8], address: u16) -> Result<(), Refusal>
+    ensures { verdict_number result ≡ lowest (read_rows state rom.now ram.now address) }
+{
+    state.no_state()?;
+    lent_to_read(rom, ram, address)
 }
 
 // A read: lent ROM and RAM.
 pub fn read(state: Controller, rom: &[u8], ram: &[u8], address: u16) -> ReadDone
     ensures { read_outcome result ram.now ≡ read_means state rom.now ram.now address }
 {
-    let verdict = state.no_state(lent_to_read(rom, ram, address));
-    if let Verdict::Refused(why) = verdict {
+    if let Err(why) = judge_read(state, rom, ram, address) {
         return ReadDone {
             state,
-            answer: ReadAnswer::Refused(why),
+            answer: Err(why),
         };
     }
     let byte = byte_read(
@@ -113,7 +121,7 @@ pub fn read(state: Controller, rom: &[u8], ram: &[u8], address: u16) -> ReadDone
     );
     ReadDone {
         state,
-        answer: ReadAnswer::Byte(byte),
+        answer: Ok(byte),
     }
 }
 
@@ -175,8 +183,13 @@ fn begin(mut state: Controller, value: u8) -> Controller
 }
 
 // A write of register 0. A start lights the image into the store, by the registers just taken.
-pub fn capture_write(mut state: Controller, store: &mut [u8], image: &[u8], value: u8) -> Controller
-    requires { (length store.old ≡ 16384) × (length image.now ≡ 16384) }
+pub fn capture_write(
+    mut state: Controller,
+    store: &mut [u8],
+    image: &[u8; 16384],
+    value: u8,
+) -> Controller
+    requires { length store.old ≡ 16384 }
     ensures { (result ≡ capture_written state value) × (store.new ≡ store_written state store.old image.now 0 value) }
 {
     if is_start(state.held, value) {
@@ -193,11 +206,11 @@ pub fn capture_write(mut state: Controller, store: &mut [u8], image: &[u8], valu
 fn register_write(
     mut state: Controller,
     store: &mut [u8],
-    image: &[u8],
+    image: &[u8; 16384],
     number: usize,
     value: u8,
 ) -> Controller
-    requires { (length store.old ≡ 16384) × (length image.now ≡ 16384) }
+    requires { length store.old ≡ 16384 }
     ensures { (result ≡ register_written state number value)
         × (store.new ≡ store_written state store.old image.now number value) }
 {
@@ -232,11 +245,11 @@ fn byte_write(
     state: Controller,
     ram: &mut [u8],
     store: &mut [u8],
-    image: &[u8],
+    image: &[u8; 16384],
     address: u16,
     value: u8,
 ) -> Controller
-    requires { (ram_allowed (length ram.old) ≡ true) × (length store.old ≡ 16384) × (length image.now ≡ 16384) }
+    requires { (ram_allowed (length ram.old) ≡ true) × (length store.old ≡ 16384) }
     ensures { left result ram.new store.new
         ≡ byte_written state ram.old store.old image.now address value }
 {
@@ -258,12 +271,27 @@ fn byte_write(
 }
 
 // What a write was lent, judged: all but the state.
-pub fn lent_to_write(ram: &[u8], store: &[u8], image: &[u8], address: u16) -> Verdict
+pub fn lent_to_write(ram: &[u8], store: &[u8], image: &[u8], address: u16) -> Result<(), Refusal>
     ensures { verdict_number result ≡ lowest (lent_to_write ram.now store.now image.now address) }
 {
-    let place = no_place(address, Verdict::Fits);
-    let frames = no_frame(store.len(), no_frame(image.len(), place));
-    no_ram(ram.len(), frames)
+    no_ram(ram.len())?;
+    no_frame(store.len())?;
+    no_frame(image.len())?;
+    no_place(address)
+}
+
+// What a write was lent, judged.
+fn judge_write(
+    state: Controller,
+    ram: &[u8],
+    store: &[u8],
+    image: &[u8],
+    address: u16,
+) -> Result<(), Refusal>
+    ensures { verdict_number result ≡ lowest (write_rows state ram.now store.now image.now address) }
+{
+    state.no_state()?;
+    lent_to_write(ram, store, image, address)
 }
 
 // A write: lent RAM, frame store and image.
@@ -278,16 +306,15 @@ pub fn write(
     ensures { write_outcome result ram.new store.new
         ≡ write_means state ram.old store.old image.now address value }
 {
-    let verdict = state.no_state(lent_to_write(ram, store, image, address));
-    if let Verdict::Refused(why) = verdict {
+    if let Err(why) = judge_write(state, ram, store, image, address) {
         return WriteDone {
             state,
-            answer: WriteAnswer::Refused(why),
+            answer: Err(why),
         };
     }
-    let next = byte_write(state, ram, store, image, address, value);
+    let next = byte_write(state, ram, store, image.try_into().unwrap(), address, value);
     WriteDone {
         state: next,
-        answer: WriteAnswer::Done,
+        answer: Ok(()),
     }
 }

@@ -15,13 +15,13 @@ use Rattle.controller.specs.Table.{lowest}
 use Rattle.laws.proofs.Bools.{neither_left, neither_right}
 use Rattle.controller.proofs.Only.{only_write}
 use Rattle.controller.proofs.Refusals.{Refuses, in_outcome, refuses, rising_from, first_fails}
-use Rattle.desk.specs.declared.choice.Exposure.{Exposure}
+use Rattle.std.specs.declared.option.Option.{Option}
 use Rattle.desk.specs.Stored.{stored_means, type_slide, pinned_beetle, herbarium_sheet}
 use Rattle.desk.specs.Choice.{beyond, choose_rows, chosen, choose_means}
 
 module _ (c : Controller) (light level : ℕ) where
   -- a choice is refused by the lowest number of its rows, and only then
-  pub choose_refuses : (plain : Bool) (exposure : Exposure) → Refuses (choose_rows c light level) in_outcome (refusal c [] []) (choose_means c light level plain exposure) (chosen c light level plain exposure)
+  pub choose_refuses : (plain : Bool) (exposure : Option ℕ) → Refuses (choose_rows c light level) in_outcome (refusal c [] []) (choose_means c light level plain exposure) (chosen c light level plain exposure)
   unfolding choose_rows choose_means rising_from
   choose_refuses plain exposure =
       refuses (choose_rows c light level) in_outcome (refusal c [] []) (chosen c light level plain exposure) (λ n. refl) refl refl

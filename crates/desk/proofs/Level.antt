@@ -13,7 +13,7 @@ use Rattle.controller.specs.Table.{lowest}
 use Rattle.matrix.specs.Matrix.{reversed, first_in}
 use Rattle.controller.specs.Inspect.{inspect_rows, inspect_means}
 use Rattle.controller.proofs.Exists.{exists_parts, exists_whole}
-use Rattle.desk.specs.declared.choice.Exposure.{Exposure}
+use Rattle.std.specs.declared.option.Option.{Option}
 use Rattle.desk.specs.Choice.{steps_of, value_of, timed, registers_chosen, with_registers, choose_rows, choose_means}
 use Rattle.desk.proofs.Registers.{stored_length, stored_before, stored_at}
 use Rattle.desk.proofs.Choices.{choose_refuses, choose_fits}
@@ -29,7 +29,7 @@ exists_with c regs e f =
     let p = exists_parts c e in
     exists_whole _ (record { bank = p.bank; select = p.select; first = rw f p.first; holds = rw f p.holds; nothing = p.nothing; capture = p.capture })
 
-module _ (light level : ℕ) (plain : Bool) (exposure : Exposure) where
+module _ (light level : ℕ) (plain : Bool) (exposure : Option ℕ) where
   -- as many registers as before
   pub chosen_length : (regs : List ℕ) → length (registers_chosen regs light level plain exposure) ≡ length regs
   unfolding registers_chosen

@@ -6,14 +6,14 @@ use Rattle.controller.specs.declared.Refusal.TheVariants as refusals
 use Rattle.controller.specs.Outcome.{Outcome, outcome}
 use Rattle.controller.specs.Table.{Row, row, no_state, lowest, judged}
 use Rattle.controller.specs.Outcome.{refusal}
-use Rattle.desk.specs.declared.choice.Exposure.{Exposure}
-use Rattle.desk.specs.declared.choice.Exposure.TheVariants as exposures
+use Rattle.std.specs.declared.option.Option.{Option}
+use Rattle.std.specs.Prelude.{Some, None}
 use Rattle.desk.specs.Levels.{levels}
 
 -- Exposure may be left unnamed and is then 1000h
-abbrev pub steps_of : Exposure → ℕ
-steps_of (exposures.Named n) = n
-steps_of exposures.Unnamed = 0x1000
+abbrev pub steps_of : Option ℕ → ℕ
+steps_of (Some n) = n
+steps_of None = 0x1000
 
 -- the matrix of a light set and a level begins here in the table: level 0 first, of each level light set 0 first
 abbrev pub matrix_from : ℕ → ℕ → ℕ
@@ -37,7 +37,7 @@ abbrev pub timed : List ℕ → ℕ → List ℕ
 timed regs steps = set (set regs 2 (steps / 256)) 3 (steps % 256)
 
 -- it writes the two exposure registers and the 48 matrix registers, from register 6 on
-unfoldable pub registers_chosen : List ℕ → ℕ → ℕ → Bool → Exposure → List ℕ
+unfoldable pub registers_chosen : List ℕ → ℕ → ℕ → Bool → Option ℕ → List ℕ
 registers_chosen regs light level plain exposure = stored (timed regs (steps_of exposure)) 6 (value_of light level plain) 48
 
 -- and nothing else in the state: a capture running or stopped keeps its taken registers
@@ -66,10 +66,10 @@ no_choice light level = row refusals.Choice (beyond light level)
 unfoldable pub choose_rows : Controller → ℕ → ℕ → List Row
 choose_rows c light level = no_state c ∷ no_choice light level ∷ []
 
-abbrev pub chosen : Controller → ℕ → ℕ → Bool → Exposure → Outcome
+abbrev pub chosen : Controller → ℕ → ℕ → Bool → Option ℕ → Outcome
 chosen c light level plain exposure = outcome 0 0 (with_registers c (registers_chosen c.registers light level plain exposure)) [] []
 
 -- refused, the state comes back as given
-unfoldable pub choose_means : Controller → ℕ → ℕ → Bool → Exposure → Outcome
+unfoldable pub choose_means : Controller → ℕ → ℕ → Bool → Option ℕ → Outcome
 choose_means c light level plain exposure =
     judged (lowest (choose_rows c light level)) (refusal c [] []) (chosen c light level plain exposure)

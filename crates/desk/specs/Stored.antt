@@ -2,13 +2,13 @@
 use Rattle.std.specs.Prelude.{Bool, true, false, ℕ}
 use Rattle.controller.specs.declared.Controller.{Controller}
 use Rattle.controller.specs.Outcome.{Outcome}
-use Rattle.desk.specs.declared.choice.Exposure.TheVariants.{Named}
+use Rattle.std.specs.Prelude.{Some}
 use Rattle.desk.specs.declared.stored.Stored.{Stored}
 use Rattle.desk.specs.Choice.{choose_means}
 
 -- a bright table is light set 0, and names exposure 0300h
 abbrev pub bright_table : ℕ → Bool → Stored
-bright_table level plain = record { light = 0; level = level; plain = plain; exposure = Named 0x0300 }
+bright_table level plain = record { light = 0; level = level; plain = plain; exposure = Some 0x0300 }
 
 -- a stored choice is chosen as any other
 abbrev pub stored_means : Controller → Stored → Outcome

@@ -6,26 +6,16 @@ ghost use Rattle.desk.specs.Choice.{steps_of, shown, stored, timed, registers_ch
 
 use super::levels::LEVELS;
 use controller::judge::refused_if;
-use controller::{Controller, Refusal, Verdict, WriteAnswer, WriteDone};
-
-// An exposure in steps, or none named.
-#[derive(Clone, Copy)]
-pub enum Exposure {
-    Named(u16),
-    Unnamed,
-}
+use controller::{Controller, Refusal, WriteDone};
 
 // The state handed back, and the answer: done, or why not.
 pub type Chosen = WriteDone;
 
 // The exposure's steps; 1000h where none is named.
-fn steps(exposure: Exposure) -> u16
+fn steps(exposure: Option<u16>) -> u16
     ensures { result ≡ steps_of exposure }
 {
-    match exposure {
-        Exposure::Named(n) => n,
-        Exposure::Unnamed => 0x1000,
-    }
+    exposure.unwrap_or(0x1000)
 }
 
 // Which value of a matrix stands in matrix register k.
@@ -62,7 +52,7 @@ fn put_matrix(regs: [u8; 54], table: &[u8; 1536], from: usize, plain: bool) -> [
 }
 
 // The registers with a choice stored.
-fn put_choice(regs: [u8; 54], light: u8, level: u8, plain: bool, exposure: Exposure) -> [u8; 54]
+fn put_choice(regs: [u8; 54], light: u8, level: u8, plain: bool, exposure: Option<u16>) -> [u8; 54]
     requires { (light ≤ 1) × (level ≤ 15) }
     ensures { result ≡ registers_chosen regs light level plain exposure }
 {
@@ -82,21 +72,21 @@ fn is_beyond(light: u8, level: u8) -> bool
 }
 
 // A choice, judged: 1, then 9.
-fn judge_choice(state: Controller, light: u8, level: u8) -> Verdict
+fn judge_choice(state: Controller, light: u8, level: u8) -> Result<(), Refusal>
     ensures { verdict_number result ≡ lowest (choose_rows state light level) }
 {
-    state.no_state(refused_if(is_beyond(light, level), Refusal::Choice, Verdict::Fits))
+    state.no_state()?;
+    refused_if(is_beyond(light, level), Refusal::Choice)
 }
 
 // A choice: the matrix of a light set and a level, with its dithering or without (plain), and an exposure.
-pub fn choose(state: Controller, light: u8, level: u8, plain: bool, exposure: Exposure) -> Chosen
+pub fn choose(state: Controller, light: u8, level: u8, plain: bool, exposure: Option<u16>) -> Chosen
     ensures { write_outcome result [] [] ≡ choose_means state light level plain exposure }
 {
-    let verdict = judge_choice(state, light, level);
-    if let Verdict::Refused(why) = verdict {
+    if let Err(why) = judge_choice(state, light, level) {
         return WriteDone {
             state,
-            answer: WriteAnswer::Refused(why),
+            answer: Err(why),
         };
     }
     let given = state.registers;
@@ -105,6 +95,6 @@ pub fn choose(state: Controller, light: u8, level: u8, plain: bool, exposure: Ex
     next.registers = registers;
     WriteDone {
         state: next,
-        answer: WriteAnswer::Done,
+        answer: Ok(()),
     }
 }

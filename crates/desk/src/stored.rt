@@ -3,7 +3,7 @@ ghost use Rattle.std.specs.Prelude.{◌≡◌, Bool, []};
 ghost use Rattle.controller.specs.Outcome.{write_outcome};
 ghost use Rattle.desk.specs.Stored.{bright_table, stored_means, type_slide, pinned_beetle, herbarium_sheet};
 
-use super::choice::{Chosen, Exposure, choose};
+use super::choice::{Chosen, choose};
 use controller::Controller;
 
 // A choice as it is stored.
@@ -12,7 +12,7 @@ pub struct Stored {
     pub light: u8,
     pub level: u8,
     pub plain: bool,
-    pub exposure: Exposure,
+    pub exposure: Option<u16>,
 }
 
 // A choice for a bright table: light set 0, exposure 0300h.
@@ -23,7 +23,7 @@ fn bright_table(level: u8, plain: bool) -> Stored
         light: 0,
         level,
         plain,
-        exposure: Exposure::Named(0x0300),
+        exposure: Some(0x0300),
     }
 }
 

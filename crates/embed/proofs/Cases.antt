@@ -7,7 +7,9 @@ use lib.Dec.{eqb}
 use lib.ListN.{length}
 use Rattle.controller.specs.declared.Controller.{Controller}
 use Rattle.controller.specs.declared.Refusal.{Refusal}
-use Rattle.controller.specs.declared.WriteAnswer.{WriteAnswer}
+use Rattle.std.specs.declared.result.Result.{Result}
+use Rattle.std.specs.declared.option.Option.{Option}
+use Rattle.std.specs.Prelude.{⊤, Ok, Err}
 use Rattle.controller.specs.declared.Element.{Element}
 use Rattle.controller.specs.declared.WriteDone.{WriteDone}
 use Rattle.controller.specs.State.{reset_state}
@@ -16,13 +18,11 @@ use Rattle.controller.specs.Outcome.{Outcome, outcome, number_of, write_number, 
 use Rattle.cartridge.specs.Calls.{read_means, write_means}
 use Rattle.capture.specs.Calls.{tick_means}
 use Rattle.controller.specs.Inspect.{inspect_means}
-use Rattle.desk.specs.declared.choice.Exposure.{Exposure}
 use Rattle.desk.specs.Choice.{choose_means}
 use Rattle.desk.proofs.Choices.{choose_refuses}
 use Rattle.layout.specs.Layout.{encoded, is_record, decoded}
 use Rattle.calls.specs.Aside.{Effect, effect}
 use Rattle.answers.specs.Packed.{packed}
-use Rattle.controller.specs.declared.WriteAnswer.TheVariants as writes
 use Rattle.answers.specs.Called.{Called, called, as_bytes, no_record, unread}
 use Rattle.embed.specs.Exports.{reset_bytes, read_bytes, write_bytes, tick_bytes, inspected, inspect_bytes, plain_in, exposure_in, choose_bytes}
 use Rattle.answers.proofs.Kept.{unchanged}
@@ -91,18 +91,18 @@ module _ (s : List ℕ) (light level plain exposure : ℕ) where
   unfolding choose_bytes
   choose_done h = simp h
 
-  module _ (h : is_record s ≡ true) (d : Controller) (x : Exposure) (r : WriteDone) (e : d ≡ decoded s) (named : x ≡ exposure_in exposure) (means : write_outcome r [] [] ≡ choose_means d light level (plain_in plain) x) where
-    choose_is : (y : WriteAnswer) → r.answer ≡ y → outcome (write_number y) 0 r.state [] [] ≡ choice (decoded s)
+  module _ (h : is_record s ≡ true) (d : Controller) (x : Option ℕ) (r : WriteDone) (e : d ≡ decoded s) (named : x ≡ exposure_in exposure) (means : write_outcome r [] [] ≡ choose_means d light level (plain_in plain) x) where
+    choose_is : (y : Result ⊤ Refusal) → r.answer ≡ y → outcome (write_number y) 0 r.state [] [] ≡ choice (decoded s)
     choose_is y f =
         ap (λ z. outcome (write_number z) 0 r.state [] []) (sym f) ∙ means ∙ ap (λ z. choose_means d light level (plain_in plain) z) named ∙ ap choice e
 
-    pub choose_chose : r.answer ≡ writes.Done → (p : ℕ) (t : List ℕ) → p ≡ packed 0 0 → t ≡ encoded r.state → called p t [] [] ≡ choose_bytes s light level plain exposure
-    choose_chose f p t q g = (λ i. called (q i) (g i) [] []) ∙ ap as_bytes (choose_is writes.Done f) ∙ sym (choose_done h)
+    pub choose_chose : r.answer ≡ (Ok _) → (p : ℕ) (t : List ℕ) → p ≡ packed 0 0 → t ≡ encoded r.state → called p t [] [] ≡ choose_bytes s light level plain exposure
+    choose_chose f p t q g = (λ i. called (q i) (g i) [] []) ∙ ap as_bytes (choose_is (Ok _) f) ∙ sym (choose_done h)
 
-    pub choose_refusal : Bytes s → (why : Refusal) → r.answer ≡ writes.Refused why → (p : ℕ) → p ≡ packed (number_of why) 0 → called p s [] [] ≡ choose_bytes s light level plain exposure
+    pub choose_refusal : Bytes s → (why : Refusal) → r.answer ≡ Err why → (p : ℕ) → p ≡ packed (number_of why) 0 → called p s [] [] ≡ choose_bytes s light level plain exposure
     choose_refusal bytes why f p q =
         (λ i. called (q i) s [] [])
-        ∙ unchanged s [] [] bytes h (choose_refuses (decoded s) light level (plain_in plain) (exposure_in exposure)) why r.state [] [] (choose_is (writes.Refused why) f)
+        ∙ unchanged s [] [] bytes h (choose_refuses (decoded s) light level (plain_in plain) (exposure_in exposure)) why r.state [] [] (choose_is (Err why) f)
         ∙ sym (choose_done h)
 
 -- ---- inspection

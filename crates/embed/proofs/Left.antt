@@ -10,7 +10,7 @@ use Rattle.tiles.specs.Tiles.{Bytes}
 use Rattle.cartridge.specs.Calls.{write_means}
 use Rattle.capture.specs.Calls.{tick_means}
 use Rattle.controller.specs.Table.{lowest}
-use Rattle.desk.specs.declared.choice.Exposure.{Exposure}
+use Rattle.std.specs.declared.option.Option.{Option}
 use Rattle.desk.specs.Choice.{choose_means, with_registers, choose_rows}
 use Rattle.desk.proofs.Choices.{choose_refuses}
 use Rattle.layout.specs.Layout.{encoded, is_record, decoded}
@@ -55,7 +55,7 @@ module _ (s ram store : List ℕ) (bytes : Bytes s) (h : is_record s ≡ true) w
   pub tick_left : (n : ℕ) → Reads (tick_bytes s ram store n).state (tick_means (decoded s) ram store n).state
   tick_left n = rw (tick_done s ram store n h) (reads _ (tick_whole s ram store bytes h n))
 
-  choose_whole : (light level : ℕ) (plain : Bool) (exposure : Exposure) → Whole (choose_means (decoded s) light level plain exposure).state
+  choose_whole : (light level : ℕ) (plain : Bool) (exposure : Option ℕ) → Whole (choose_means (decoded s) light level plain exposure).state
   unfolding with_registers
   choose_whole light level plain exposure = by_number (lowest (choose_rows (decoded s) light level)) refl
     where

@@ -4,10 +4,11 @@ use mathlib.Core.List.{List}
 use Prim.Native.Nat.{ℕ, zero, suc, ◌/◌, ◌<◌}
 use lib.ListN.{length}
 use native.Mathlib.Omega.{arith}
-use Rattle.controller.specs.declared.WriteAnswer.{WriteAnswer}
+use Rattle.std.specs.declared.result.Result.{Result}
+use Rattle.controller.specs.declared.Refusal.{Refusal}
+use Rattle.std.specs.Prelude.{⊤}
 use Rattle.controller.specs.Outcome.{write_number}
 use Rattle.controller.specs.Table.{lowest}
-use Rattle.shades.specs.declared.Output.{Output}
 use Rattle.shades.specs.Shades.{exported, output_number, output_value}
 use Rattle.answers.specs.Packed.{packed}
 use Rattle.timing.proofs.Lent.{ram_lent}
@@ -20,12 +21,12 @@ use Rattle.answers.proofs.Kept.{kept, written, written_kept}
 use Rattle.answers.proofs.Only.{Says, packed_says}
 use Rattle.embed.specs.Saves.{save_bytes, as_restored, restore_bytes}
 
-pub save_written : (s ram store out : List ℕ) (r : Output) (left : List ℕ) → exported (output_number r) (output_value r) left ≡ save_means s ram store out
+pub save_written : (s ram store out : List ℕ) (r : Result ℕ Refusal) (left : List ℕ) → exported (output_number r) (output_value r) left ≡ save_means s ram store out
     → (p : ℕ) → p ≡ packed (output_number r) (output_value r) → filled p left ≡ save_bytes s ram store out
 unfolding save_bytes
 save_written s ram store out = written (save_means s ram store out)
 
-pub restore_read : (file s ram store : List ℕ) (r : WriteAnswer) (s' ram' store' : List ℕ) → restored (write_number r) s' ram' store' ≡ restore_means file s ram store
+pub restore_read : (file s ram store : List ℕ) (r : Result ⊤ Refusal) (s' ram' store' : List ℕ) → restored (write_number r) s' ram' store' ≡ restore_means file s ram store
     → (p : ℕ) → p ≡ packed (write_number r) 0 → called p s' ram' store' ≡ restore_bytes file s ram store
 unfolding restore_bytes
 restore_read file s ram store r s' ram' store' means p q = (λ i. called (q i) s' ram' store') ∙ ap as_restored means

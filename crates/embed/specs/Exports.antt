@@ -6,8 +6,8 @@ use Rattle.controller.specs.Outcome.{Inspection}
 use Rattle.cartridge.specs.Calls.{read_means, write_means}
 use Rattle.capture.specs.Calls.{tick_means}
 use Rattle.controller.specs.Inspect.{inspect_means}
-use Rattle.desk.specs.declared.choice.Exposure.{Exposure}
-use Rattle.desk.specs.declared.choice.Exposure.TheVariants.{Named, Unnamed}
+use Rattle.std.specs.declared.option.Option.{Option}
+use Rattle.std.specs.Prelude.{Some, None}
 use Rattle.desk.specs.Choice.{choose_means}
 use Rattle.layout.specs.Layout.{encoded, is_record, decoded}
 use Rattle.answers.specs.Packed.{packed}
@@ -33,8 +33,8 @@ abbrev pub plain_in : ℕ → Bool
 plain_in plain = not (eqb plain 0)
 
 -- an exposure above FFFF is unnamed
-unfoldable pub exposure_in : ℕ → Exposure
-exposure_in n = pick (ltb 0xFFFF n) Unnamed (Named n)
+unfoldable pub exposure_in : ℕ → Option ℕ
+exposure_in n = pick (ltb 0xFFFF n) None (Some n)
 
 -- a choice is lent the state alone
 unfoldable pub choose_bytes : List ℕ → ℕ → ℕ → ℕ → ℕ → Called

@@ -10,10 +10,9 @@ ghost use Rattle.answers.specs.Called.{called};
 ghost use Rattle.embed.specs.Exports.{reset_bytes, read_bytes, write_bytes, tick_bytes, inspect_bytes, exposure_in, choose_bytes};
 
 use answers::{done_answer, pack, read_answer, refused};
-use controller::{Controller, Element, Refusal, Verdict, WriteAnswer};
-use desk::choice::{Exposure, choose};
+use controller::{Controller, Element, Refusal};
+use desk::choice::choose;
 use layout::{STATE_LEN, decode, encode, is_record};
-use timing::wide;
 
 // Writes the reset record.
 #[unsafe(no_mangle)]
@@ -67,25 +66,21 @@ pub extern "C" fn gulxinett_tick(state: &mut [u8], ram: &mut [u8], store: &[u8],
     if !is_record(state) {
         return refused(Refusal::State);
     }
-    let verdict = calls::judge_tick(state, ram, store);
-    if let Verdict::Refused(why) = verdict {
+    if let Err(why) = calls::judge_tick(state, ram, store) {
         return refused(why);
     }
     if !calls::runs(state) {
         return pack(0, 0);
     }
-    pack(0, calls::run(state, ram, store, cycles))
+    pack(0, calls::run(state, ram, store.try_into().unwrap(), cycles))
 }
 
 // The exposure that a number names; above FFFF none.
 #[tactic(auto, unfolding(crate::specs::Exports::exposure_in))]
-fn exposure_in(n: u32) -> Exposure
+fn exposure_in(n: u32) -> Option<u16>
     ensures { result ≡ exposure_in n }
 {
-    if 0xFFFF < n {
-        return Exposure::Unnamed;
-    }
-    Exposure::Named(n as u16)
+    u16::try_from(n).ok()
 }
 
 // Chooses the matrix of a light set and a level, with its dithering (plain 0) or without, and an exposure.
@@ -109,14 +104,12 @@ pub extern "C" fn gulxinett_choose(
         plain != 0,
         exposure_in(exposure),
     );
-    let answer = done.answer;
-    match answer {
-        WriteAnswer::Done => {
-            let next = done.state;
-            encode(next, state);
+    match done.answer {
+        Ok(()) => {
+            encode(done.state, state);
             pack(0, 0)
         }
-        WriteAnswer::Refused(why) => refused(why),
+        Err(why) => refused(why),
     }
 }
 
@@ -128,10 +121,11 @@ pub extern "C" fn gulxinett_inspect(state: &[u8]) -> u64
     if !is_record(state) {
         return refused(Refusal::State);
     }
-    let element = decode(state).inspect();
-    match element {
-        Element::At(row, column) => pack(0, 0x100 + 16 * wide(row) + wide(column)),
-        Element::Level => pack(0, 0),
-        Element::Refused(why) => refused(why),
+    match decode(state).inspect() {
+        Ok(Some(Element { row, column })) => {
+            pack(0, 0x100 + 16 * u32::from(row) + u32::from(column))
+        }
+        Ok(None) => pack(0, 0),
+        Err(why) => refused(why),
     }
 }

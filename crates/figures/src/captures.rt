@@ -2,7 +2,7 @@
 ghost use Rattle.std.specs.Prelude.{◌<◌};
 
 use super::print::{bytes, digit, long, number, text};
-use controller::{Controller, TickAnswer};
+use controller::Controller;
 use lighting::Setting;
 use std::io;
 
@@ -74,14 +74,6 @@ fn set_up(
     next
 }
 
-// How many cycles a tick ran.
-fn ran(answer: TickAnswer) -> u32 {
-    match answer {
-        TickAnswer::Ran(n) => n.0,
-        TickAnswer::Refused(_) => 0,
-    }
-}
-
 // From reset: selects the registers, writes them, starts with register 0, and ticks past the largest total.
 fn capture(
     ram: &mut [u8; 8192],
@@ -93,8 +85,7 @@ fn capture(
     let ready = set_up(selected, ram, store, image, regs);
     let started = put(ready, ram, store, image, 0xA000, regs[0]);
     let done = capture::tick(started, ram, store, 2000000);
-    let answer = done.answer;
-    ran(answer)
+    done.answer.map_or(0, |n| n.0)
 }
 
 // A byte as a wider number, with its bound.

@@ -14,7 +14,7 @@ use Rattle.controller.specs.Table.{on_cartridge}
 use Rattle.cartridge.specs.Bus.{byte_written, control_written, register_written, store_written, with_register, with_select}
 use Rattle.controller.proofs.Exists.{exists_parts}
 use Rattle.cartridge.proofs.Written.{written_register}
-use Rattle.desk.specs.declared.choice.Exposure.{Exposure}
+use Rattle.std.specs.declared.option.Option.{Option}
 use Rattle.desk.specs.Choice.{beyond, steps_of, value_of, stored, registers_chosen, with_registers}
 use Rattle.desk.proofs.Registers.{stored_before}
 use Rattle.desk.proofs.Choices.{choose_none, choose_refuses}
@@ -39,7 +39,7 @@ pub record Quiet (w : World) (k : Call) : Type 0 where
 abbrev with_all : World → List ℕ → World
 with_all w regs = record { state = with_registers w.state regs; ram = w.ram; store = w.store }
 
-module _ (ram store : List ℕ) (cs : List Call) (light level : ℕ) (plain : Bool) (exposure : Exposure) where
+module _ (ram store : List ℕ) (cs : List Call) (light level : ℕ) (plain : Bool) (exposure : Option ℕ) where
   abbrev now : World
   now = after (fresh ram store) cs
 
@@ -126,7 +126,7 @@ module _ (w : World) (image : List ℕ) (fits : Lends w image) where
         ∙ register_more on (stored c.registers from f n) (stored_before c.registers from f n 0 low) (from + n) (f n) (omega arith) (omega arith)
 
   -- Played: the bus writes that a choice amounts to leave what the choice leaves
-  pub choice_writes_lem : (light level : ℕ) (plain : Bool) (exposure : Exposure) → cant_exist w.state ≡ false → beyond light level ≡ false
+  pub choice_writes_lem : (light level : ℕ) (plain : Bool) (exposure : Option ℕ) → cant_exist w.state ≡ false → beyond light level ≡ false
       → after w (choice_writes image w.state.select light level plain exposure) ≡ leaves w (choose light level plain exposure)
   unfolding after choice_writes registers_chosen with_select with_register with_registers
   choice_writes_lem light level plain exposure e ok =

@@ -20,7 +20,7 @@ use Rattle.controller.specs.Outcome.{Outcome}
 use Rattle.controller.specs.Table.{lowest}
 use Rattle.cartridge.specs.Calls.{read_rows, read_means}
 use Rattle.controller.proofs.Refusals.{judged_ind}
-use Rattle.desk.specs.declared.choice.Exposure.{Exposure}
+use Rattle.std.specs.declared.option.Option.{Option}
 use Rattle.desk.specs.Choice.{beyond, with_registers}
 use Rattle.placing.specs.Placing.{is_plate}
 use Rattle.history.specs.History.{Call, reset, read, write, tick, inspect, choose, place, World, fresh, leaves, after}
@@ -82,7 +82,7 @@ module _ (w : World) (im : List ℕ) (own : w.state.held ≡ true → w.store �
       (control_written c a v) (begun c (v % 8)) (with_register c 0 (v % 8)) (with_register c (a % 128) v) _ _ _ _ w
       (control_same a v) (record { started = refl; ended = refl }) (record { started = refl; ended = refl }) (record { started = refl; ended = refl }) same)
 
-  choose_next : (light level : ℕ) (plain : Bool) (exposure : Exposure) → Next (choose light level plain exposure)
+  choose_next : (light level : ℕ) (plain : Bool) (exposure : Option ℕ) → Next (choose light level plain exposure)
   unfolding is_reset starts ends with_registers
   choose_next light level plain exposure =
       rw (choose_leaves w light level plain exposure exists)

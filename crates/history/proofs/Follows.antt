@@ -38,7 +38,7 @@ use Rattle.tiles.proofs.Pixels.{pixels_length}
 use Rattle.tiles.proofs.Run.{pixels_none}
 use Rattle.tiles.specs.Aside.{pixels}
 use Rattle.timing.specs.Aside.{done_by}
-use Rattle.desk.specs.declared.choice.Exposure.{Exposure}
+use Rattle.std.specs.declared.option.Option.{Option}
 use Rattle.desk.specs.Choice.{beyond, registers_chosen, with_registers, choose_rows, choose_means}
 use Rattle.desk.proofs.Choices.{choose_none}
 use Rattle.placing.specs.Placing.{is_plate, pixels_of, placed_byte, placed_in, place_rows, place_means}
@@ -67,7 +67,7 @@ write_leaves w image a v e =
 
 -- ---- a choice
 
-pub choose_leaves : (w : World) (light level : ℕ) (plain : Bool) (exposure : Exposure) → cant_exist w.state ≡ false
+pub choose_leaves : (w : World) (light level : ℕ) (plain : Bool) (exposure : Option ℕ) → cant_exist w.state ≡ false
     → leaves w (choose light level plain exposure)
     ≡ pick (not (beyond light level)) (record { state = with_registers w.state (registers_chosen w.state.registers light level plain exposure); ram = w.ram; store = w.store }) w
 unfolding leaves choose_means
@@ -353,7 +353,7 @@ module _ (w : World) (im : List ℕ) (own : w.state.held ≡ true → w.store �
     unfolding next leaves
     inspect_told = stays
 
-    choose_told : (light level : ℕ) (plain : Bool) (exposure : Exposure) → Told (next (seen w im) (choose light level plain exposure)) (leaves w (choose light level plain exposure))
+    choose_told : (light level : ℕ) (plain : Bool) (exposure : Option ℕ) → Told (next (seen w im) (choose light level plain exposure)) (leaves w (choose light level plain exposure))
     unfolding next choice_accepted storing with_registers
     choose_told light level plain exposure =
         rw (choose_leaves w light level plain exposure exists)

@@ -10,7 +10,7 @@ use Rattle.laws.specs.Bits.{is_set}
 use Rattle.laws.proofs.Pick.{pick_ind}
 use Rattle.laws.proofs.Bools.{either, not_both, both_left, both_right}
 use Rattle.timing.specs.Timing.{total_of}
-use Rattle.desk.specs.declared.choice.Exposure.{Exposure}
+use Rattle.std.specs.declared.option.Option.{Option}
 use Rattle.history.specs.History.{Call, reset, read, write, tick, inspect, choose, place, World, fresh, leaves, answers, count_in, after, counted}
 use Rattle.history.specs.Seen.{is_reset}
 use Rattle.history.proofs.Track.{Capture, Track, at_reset, write_accepted, choice_accepted, runs_in, ends, to_registers, starts, image_in, registers_at, enabling, selecting, storing, beginning, running, ending, controlled, registered, written, next, follow, told}
@@ -87,7 +87,7 @@ module _ {image taken : List ℕ} {ran : ℕ} (t : Track) (o : Of image taken ra
       (λ _. pick_ind Same (ltb a 0x8000) (λ _. control_same a v) (λ _. pick_ind Same (is_set t.select 4) (λ _. registers_same lent (a % 128) v) (λ _. o)))
       (λ _. o)
 
-  chosen_same : (light level : ℕ) (plain : Bool) (exposure : Exposure) → Same (next t (choose light level plain exposure))
+  chosen_same : (light level : ℕ) (plain : Bool) (exposure : Option ℕ) → Same (next t (choose light level plain exposure))
   unfolding next storing
   chosen_same light level plain exposure = pick_ind Same (choice_accepted light level) (λ _. o) (λ _. o)
 
@@ -180,7 +180,7 @@ unfolding next ending running
 tick_was t n =
     pick_ind (λ (u : Track). u.capture.held ≡ true → (t.capture.held ≡ true) × (ends t (tick n) ≡ false)) (ends t (tick n)) (λ _ h. not_both h refl) (λ e h. (h, e))
 
-choice_was : (t : Track) (light level : ℕ) (plain : Bool) (exposure : Exposure) → Was t (next t (choose light level plain exposure))
+choice_was : (t : Track) (light level : ℕ) (plain : Bool) (exposure : Option ℕ) → Was t (next t (choose light level plain exposure))
 unfolding next storing
 choice_was t light level plain exposure = pick_ind (Was t) (choice_accepted light level) (λ _ h. h) (λ _ h. h)
 

@@ -24,7 +24,7 @@ use Rattle.controller.proofs.Refusals.{row_holds, inspect_refuses, judged_ind, n
 use Rattle.cartridge.proofs.Refusals.{read_refuses, write_refuses}
 use Rattle.capture.proofs.Refusals.{tick_refuses}
 use Rattle.capture.proofs.TickSum.{ticks_keep}
-use Rattle.desk.specs.declared.choice.Exposure.{Exposure}
+use Rattle.std.specs.declared.option.Option.{Option}
 use Rattle.desk.specs.Choice.{registers_chosen, with_registers, choose_rows, choose_means}
 use Rattle.desk.proofs.Choices.{choose_refuses}
 use Rattle.desk.proofs.Level.{chosen_length, chosen_exists}
@@ -99,7 +99,7 @@ ticks_sound lit ram n c s = record {
 }
 
 -- a choice
-chosen_sound : (c : Controller) (light level : ℕ) (plain : Bool) (exposure : Exposure) → Sound c → Sound (with_registers c (registers_chosen c.registers light level plain exposure))
+chosen_sound : (c : Controller) (light level : ℕ) (plain : Bool) (exposure : Option ℕ) → Sound c → Sound (with_registers c (registers_chosen c.registers light level plain exposure))
 unfolding with_registers
 chosen_sound c light level plain exposure s = record {
   exists = chosen_exists light level plain exposure c s.exists;

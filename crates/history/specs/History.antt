@@ -6,7 +6,7 @@ use Rattle.controller.specs.Outcome.{Outcome, Inspection}
 use Rattle.cartridge.specs.Calls.{read_means, write_means}
 use Rattle.capture.specs.Calls.{tick_means}
 use Rattle.controller.specs.Inspect.{inspect_means}
-use Rattle.desk.specs.declared.choice.Exposure.{Exposure}
+use Rattle.std.specs.declared.option.Option.{Option}
 use Rattle.desk.specs.Choice.{choose_means}
 use Rattle.placing.specs.Placing.{place_means}
 
@@ -18,7 +18,7 @@ pub data Call : Type 0 where
   write : (image : List ℕ) (address byte : ℕ) → Call
   tick : (cycles : ℕ) → Call
   inspect : Call
-  choose : (light level : ℕ) (plain : Bool) (exposure : Exposure) → Call
+  choose : (light level : ℕ) (plain : Bool) (exposure : Option ℕ) → Call
   place : (file : List ℕ) → Call
 
 -- what a call finds and leaves: the state, and the RAM and frame store that are lent to every call

@@ -1,7 +1,7 @@
 -- A choice and a placing as the bus writes that they amount to. Assumes nothing.
 use Rattle.std.specs.Prelude.{Bool, List, [], ◌∷◌, ◌++◌, ℕ, zero, suc, ◌+◌, ◌/◌, ◌%◌}
 use Rattle.laws.specs.Pick.{pick}
-use Rattle.desk.specs.declared.choice.Exposure.{Exposure}
+use Rattle.std.specs.declared.option.Option.{Option}
 use Rattle.desk.specs.Choice.{steps_of, value_of}
 use Rattle.placing.specs.Placing.{pixels_of, placed_byte}
 use Rattle.history.specs.History.{Call, write}
@@ -12,7 +12,7 @@ writes_from image from f zero = []
 writes_from image from f (suc n) = writes_from image from f n ++ (write image (0xA000 + (from + n)) (f n) ∷ [])
 
 -- a choice: select to the registers, the two exposure registers, the 48 matrix registers, and this select back
-unfoldable pub choice_writes : List ℕ → ℕ → ℕ → ℕ → Bool → Exposure → List Call
+unfoldable pub choice_writes : List ℕ → ℕ → ℕ → ℕ → Bool → Option ℕ → List Call
 choice_writes image select light level plain exposure =
     write image 0x4000 0x10
     ∷ write image 0xA002 (steps_of exposure / 256)

@@ -4,13 +4,14 @@ use mathlib.Core.Bool.{true, false}
 use mathlib.Core.List.{List, []}
 use Prim.Native.Nat.{ℕ}
 use Rattle.controller.specs.declared.Controller.{Controller}
-use Rattle.controller.specs.declared.WriteAnswer.{WriteAnswer}
+use Rattle.std.specs.declared.result.Result.{Result}
+use Rattle.controller.specs.declared.Refusal.{Refusal}
+use Rattle.std.specs.Prelude.{⊤}
 use Rattle.tiles.specs.Tiles.{Bytes}
 use Rattle.controller.specs.Outcome.{Outcome, outcome, write_number}
 use Rattle.controller.specs.Table.{lowest}
 use Rattle.controller.specs.Picture.{afresh, picture_means}
 use Rattle.controller.proofs.Refusals.{judged_ind}
-use Rattle.shades.specs.declared.Output.{Output}
 use Rattle.shades.specs.Shades.{exported, output_number, output_value, shades_means}
 use Rattle.plates.specs.Grey.{export_means}
 use Rattle.placing.specs.Placing.{place_rows, place_means}
@@ -25,14 +26,14 @@ use Rattle.answers.proofs.Kept.{written}
 
 -- ---- the picture afresh
 
-pub picture_drawn : (frame registers picture : List ℕ) (r : WriteAnswer) (left : List ℕ) → afresh (write_number r) left ≡ picture_means frame registers picture
+pub picture_drawn : (frame registers picture : List ℕ) (r : Result ⊤ Refusal) (left : List ℕ) → afresh (write_number r) left ≡ picture_means frame registers picture
     → (p : ℕ) → p ≡ packed (write_number r) 0 → filled p left ≡ picture_bytes frame registers picture
 unfolding picture_bytes
 picture_drawn frame registers picture r left means p q = (λ i. filled (q i) left) ∙ ap as_drawn means
 
 -- ---- the picture area as a grey image, and as shades
 
-module _ (ram out : List ℕ) (r : Output) (left : List ℕ) where
+module _ (ram out : List ℕ) (r : Result ℕ Refusal) (left : List ℕ) where
   pub export_written : exported (output_number r) (output_value r) left ≡ export_means ram out → (p : ℕ) → p ≡ packed (output_number r) (output_value r) → filled p left ≡ export_bytes ram out
   unfolding export_bytes
   export_written = written (export_means ram out) r left
@@ -58,7 +59,7 @@ module _ (s ram file : List ℕ) where
   place_state c = judged_ind (λ (o : Outcome). o.state ≡ c) (lowest (place_rows c ram file)) (λ k. refl) refl
 
   -- so the state bytes are those lent
-  pub place_answered : Bytes s → is_record s ≡ true → (d : Controller) (r : WriteAnswer) (ram' : List ℕ) → d ≡ decoded s → outcome (write_number r) 0 d ram' [] ≡ place_means d ram file
+  pub place_answered : Bytes s → is_record s ≡ true → (d : Controller) (r : Result ⊤ Refusal) (ram' : List ℕ) → d ≡ decoded s → outcome (write_number r) 0 d ram' [] ≡ place_means d ram file
       → (p : ℕ) → p ≡ packed (write_number r) 0 → called p s ram' [] ≡ place_bytes s ram file
   place_answered bytes h d r ram' e means p q =
       (λ i. called (q i) s ram' [])
@@ -77,14 +78,14 @@ module _ (s store out : List ℕ) where
   unfolding readings_bytes
   readings_done h = simp h
 
-  pub readings_written : is_record s ≡ true → (d : Controller) (r : Output) (left : List ℕ) → d ≡ decoded s → exported (output_number r) (output_value r) left ≡ readings_mean d store out
+  pub readings_written : is_record s ≡ true → (d : Controller) (r : Result ℕ Refusal) (left : List ℕ) → d ≡ decoded s → exported (output_number r) (output_value r) left ≡ readings_mean d store out
       → (p : ℕ) → p ≡ packed (output_number r) (output_value r) → filled p left ≡ readings_bytes s store out
   readings_written h d r left e means p q =
       written (readings_mean (decoded s) store out) r left (means ∙ ap (λ c. readings_mean c store out) e) p q ∙ sym (readings_done h)
 
 -- ---- a photograph
 
-pub import_read : (file image : List ℕ) (r : WriteAnswer) (left : List ℕ) → imported (write_number r) left ≡ import_means file image
+pub import_read : (file image : List ℕ) (r : Result ⊤ Refusal) (left : List ℕ) → imported (write_number r) left ≡ import_means file image
     → (p : ℕ) → p ≡ packed (write_number r) 0 → filled p left ≡ import_bytes file image
 unfolding import_bytes
 import_read file image r left means p q = (λ i. filled (q i) left) ∙ ap as_read means

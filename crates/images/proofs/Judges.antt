@@ -4,8 +4,9 @@ use mathlib.Core.List.{List}
 use Prim.Native.Nat.{ℕ, zero, suc, ◌/◌, ◌<◌}
 use native.Mathlib.Omega.{arith}
 use Rattle.controller.specs.Table.{lowest}
-use Rattle.judging.specs.declared.Judged.{Judged}
-use Rattle.judging.specs.declared.Judged.TheVariants as judgements
+use Rattle.std.specs.declared.result.Result.{Result}
+use Rattle.controller.specs.declared.Refusal.{Refusal}
+use Rattle.std.specs.Prelude.{Ok, Err}
 use Rattle.judging.specs.Judging.{afresh_of, answered, judged_by, judge_rows, judge_means}
 use Rattle.judging.proofs.Outcomes.{judge_refuses}
 use Rattle.judging.proofs.Whose.{equal_most}
@@ -15,14 +16,14 @@ use Rattle.answers.proofs.Kept.{kept}
 use Rattle.answers.proofs.Only.{Says, packed_says}
 
 module _ (plate frame regs rows : List ℕ) where
-  pub judge_answered : (r : Judged) (rows' : List ℕ) → answered r rows' ≡ judge_means plate frame regs rows → (x : Judged) → r ≡ x
+  pub judge_answered : (r : Result ℕ Refusal) (rows' : List ℕ) → answered r rows' ≡ judge_means plate frame regs rows → (x : Result ℕ Refusal) → r ≡ x
       → (p : ℕ) → p ≡ (as_judged (answered x rows')).answer → filled p rows' ≡ judge_bytes plate frame regs rows
   unfolding judge_bytes
-  judge_answered r rows' e x f p q = (λ i. filled (q i) (same x i)) ∙ ap (λ (y : Judged). as_judged (answered y rows')) (sym f) ∙ ap as_judged e
+  judge_answered r rows' e x f p q = (λ i. filled (q i) (same x i)) ∙ ap (λ (y : Result ℕ Refusal). as_judged (answered y rows')) (sym f) ∙ ap as_judged e
     where
-      same : (x : Judged) → rows' ≡ (answered x rows').rows
-      same (judgements.Rows n) = refl
-      same (judgements.Refused why) = refl
+      same : (x : Result ℕ Refusal) → rows' ≡ (answered x rows').rows
+      same (Ok n) = refl
+      same (Err why) = refl
 
   -- number and value in the answer
   judge_small : (judge_means plate frame regs rows).equal < 4294967296

@@ -3,8 +3,8 @@ ghost use Rattle.std.specs.Prelude.{◌≡◌};
 ghost use Rattle.answers.specs.Called.{filled};
 ghost use Rattle.images.specs.Judges.{judge_bytes};
 
-use answers::{pack, refused};
-use judging::{Judged, judge};
+use answers::output_answer;
+use judging::judge;
 
 // Says of each row of a plate whether it is that of the picture afresh of a frame under 54 registers taken. The answer's value is how many are.
 #[unsafe(no_mangle)]
@@ -16,9 +16,5 @@ pub extern "C" fn gulxinett_judge(
 ) -> u64
     ensures { filled result rows.new ≡ judge_bytes plate.now frame.now registers.now rows.old }
 {
-    let answer = judge(plate, frame, *registers, rows);
-    match answer {
-        Judged::Rows(equal) => pack(0, equal),
-        Judged::Refused(why) => refused(why),
-    }
+    output_answer(judge(plate, frame, *registers, rows))
 }

@@ -13,8 +13,9 @@ use Rattle.controller.specs.Table.{lowest}
 use Rattle.controller.specs.Picture.{afresh, picture_rows, picture_means}
 use Rattle.controller.proofs.Only.{only_number, some_number}
 use Rattle.controller.proofs.Refusals.{Refuses, refuses, rising_from, first_fails, picture_refuses}
-use Rattle.judging.specs.declared.Judged.{Judged}
-use Rattle.judging.specs.declared.Judged.TheVariants as judgements
+use Rattle.std.specs.declared.result.Result.{Result}
+use Rattle.controller.specs.declared.Refusal.{Refusal}
+use Rattle.std.specs.Prelude.{Ok, Err}
 use Rattle.judging.specs.Judging.{row_judged, rows_equal, afresh_of, Judging, judging, answered, judged_by, judge_rows, judge_means}
 
 -- none of no rows, and one row more
@@ -60,8 +61,8 @@ judged_rows plate picture picture' rows part equal p q r =
     ∙ ap (λ (l : List ℕ). judging 0 (rows_equal plate l 112) (listed (row_judged plate l) 112 ++ drop 112 rows)) p
 
 -- one answer, and one list of bytes
-pub only_judge : (r s : Judged) (rows rows' : List ℕ) → answered r rows ≡ answered s rows' → (r ≡ s) × (rows ≡ rows')
-only_judge (judgements.Rows n) (judgements.Rows m) rows rows' e = (λ i. judgements.Rows (e i).equal, λ i. (e i).rows)
-only_judge (judgements.Rows n) (judgements.Refused w) rows rows' e = absurd (some_number w (λ i. (e i).number))
-only_judge (judgements.Refused w) (judgements.Rows m) rows rows' e = absurd (some_number w (sym (λ i. (e i).number)))
-only_judge (judgements.Refused w) (judgements.Refused v) rows rows' e = (ap judgements.Refused (only_number w v (λ i. (e i).number)), λ i. (e i).rows)
+pub only_judge : (r s : Result ℕ Refusal) (rows rows' : List ℕ) → answered r rows ≡ answered s rows' → (r ≡ s) × (rows ≡ rows')
+only_judge (Ok n) (Ok m) rows rows' e = (λ i. Ok (e i).equal, λ i. (e i).rows)
+only_judge (Ok n) (Err w) rows rows' e = absurd (some_number w (λ i. (e i).number))
+only_judge (Err w) (Ok m) rows rows' e = absurd (some_number w (sym (λ i. (e i).number)))
+only_judge (Err w) (Err v) rows rows' e = (ap Err (only_number w v (λ i. (e i).number)), λ i. (e i).rows)

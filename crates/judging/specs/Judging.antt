@@ -8,8 +8,9 @@ use Rattle.tiles.specs.Picture.{picture_of}
 use Rattle.controller.specs.Outcome.{number_of}
 use Rattle.controller.specs.Table.{Row, no_frame, no_room, lowest, judged}
 use Rattle.placing.specs.Placing.{each}
-use Rattle.judging.specs.declared.Judged.{Judged}
-use Rattle.judging.specs.declared.Judged.TheVariants as judgements
+use Rattle.std.specs.declared.result.Result.{Result}
+use Rattle.controller.specs.declared.Refusal.{Refusal}
+use Rattle.std.specs.Prelude.{Ok, Err}
 
 -- where byte k of row y of the picture stands: the bytes of its sixteen tiles in that row, 256 × (y/8) + 2 × (y mod 8) + 16 × t and the next, t from 0 to 15
 abbrev pub row_place : ℕ → ℕ → ℕ
@@ -49,9 +50,9 @@ abbrev pub judging : ℕ → ℕ → List ℕ → Judging
 judging n equal rows = record { number = n; equal = equal; rows = rows }
 
 -- what a judging answers, with the buffer afterwards: how many rows are equal, or the refusal
-abbrev pub answered : Judged → List ℕ → Judging
-answered (judgements.Rows n) rows = judging 0 n rows
-answered (judgements.Refused why) rows = judging (number_of why) 0 rows
+abbrev pub answered : Result ℕ Refusal → List ℕ → Judging
+answered (Ok n) rows = judging 0 n rows
+answered (Err why) rows = judging (number_of why) 0 rows
 
 -- 112 rows judged, in order; bytes beyond 112 stay
 unfoldable pub judged_by : List ℕ → List ℕ → List ℕ → Judging

@@ -8,14 +8,7 @@ ghost use Rattle.controller.specs.Table.{lowest};
 ghost use Rattle.judging.specs.Judging.{row_same, row_judged, rows_equal, answered, judge_rows, judge_means};
 
 use controller::judge::{no_frame, no_room};
-use controller::{Controller, Refusal, Verdict};
-
-// How many rows are equal, or why none was looked at.
-#[derive(Clone, Copy)]
-pub enum Judged {
-    Rows(u32),
-    Refused(Refusal),
-}
+use controller::{Controller, Refusal};
 
 // The rows of a picture.
 pub const ROWS: usize = 112;
@@ -66,21 +59,19 @@ fn judge_rows(plate: &[u8; 3584], picture: &[u8; 3584], rows: &mut [u8]) -> u32
 }
 
 // What a judging was lent, judged: 4, then 7.
-fn judge_lent(frame: &[u8], rows: &[u8]) -> Verdict
+fn judge_lent(frame: &[u8], rows: &[u8]) -> Result<(), Refusal>
     ensures { verdict_number result ≡ lowest (judge_rows frame.now rows.now) }
 {
-    no_frame(frame.len(), no_room(ROWS, rows.len(), Verdict::Fits))
+    no_frame(frame.len())?;
+    no_room(ROWS, rows.len())
 }
 
-// Judges a plate by a frame and the registers taken, row by row, into a lent buffer, whose later bytes stay.
-pub fn judge(plate: &[u8; 3584], frame: &[u8], registers: [u8; 54], rows: &mut [u8]) -> Judged
+// Judges a plate by a frame and the registers taken, row by row, into a lent buffer, whose later bytes stay: how many rows are equal.
+pub fn judge(plate: &[u8; 3584], frame: &[u8], registers: [u8; 54], rows: &mut [u8]) -> Result<u32, Refusal>
     ensures { answered result rows.new ≡ judge_means plate.now frame.now registers rows.old }
 {
-    let verdict = judge_lent(frame, rows);
-    if let Verdict::Refused(why) = verdict {
-        return Judged::Refused(why);
-    }
+    judge_lent(frame, rows)?;
     let mut picture = [0u8; 3584];
-    Controller::picture(frame, registers, &mut picture);
-    Judged::Rows(judge_rows(plate, &picture, &mut rows[0..ROWS]))
+    Controller::picture(frame, registers, &mut picture)?;
+    Ok(judge_rows(plate, &picture, &mut rows[0..ROWS]))
 }

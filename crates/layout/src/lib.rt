@@ -5,7 +5,7 @@ ghost use Rattle.std.specs.Prelude.{◌≡◌, true, ◌++◌, ◌+◌, ◌<◌,
 ghost use Rattle.layout.specs.Layout.{front, encoded, is_record, four_at, two_at, registers_at, decoded};
 
 use controller::Controller;
-use timing::{Cycles, wide};
+use timing::Cycles;
 
 // The number of the layout, at offset 0: bytes of another layout are no record.
 const LAYOUT: u8 = 3;
@@ -34,10 +34,10 @@ pub fn four_at(state: &[u8], at: usize) -> u32
     requires { at + 4 ≤ length state.now }
     ensures { result ≡ four_at state.now at }
 {
-    wide(state[at])
-        + 256 * wide(state[at + 1])
-        + 65536 * wide(state[at + 2])
-        + 16777216 * wide(state[at + 3])
+    u32::from(state[at])
+        + 256 * u32::from(state[at + 1])
+        + 65536 * u32::from(state[at + 2])
+        + 16777216 * u32::from(state[at + 3])
 }
 
 // Two bytes from a place on as one number, the lowest first.
@@ -45,7 +45,7 @@ fn two_at(state: &[u8], at: usize) -> u16
     requires { at + 2 ≤ length state.now }
     ensures { result ≡ two_at state.now at }
 {
-    (wide(state[at]) + 256 * wide(state[at + 1])) as u16
+    u16::from(state[at]) + 256 * u16::from(state[at + 1])
 }
 
 // 54 bytes from a place on.

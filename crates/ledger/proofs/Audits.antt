@@ -16,8 +16,9 @@ use Rattle.tiles.specs.Tiles.{Bytes}
 use Rattle.timing.specs.Lent.{ram_allowed}
 use Rattle.timing.proofs.Lent.{ram_lent}
 use Rattle.controller.specs.Table.{lowest}
-use Rattle.controller.specs.declared.Verdict.{Verdict}
-use Rattle.controller.specs.declared.Verdict.TheVariants as verdicts
+use Rattle.std.specs.declared.result.Result.{Result}
+use Rattle.controller.specs.declared.Refusal.{Refusal}
+use Rattle.std.specs.Prelude.{⊤, Ok}
 use Rattle.controller.specs.Outcome.{verdict_number}
 use Rattle.controller.proofs.Refusals.{Refuses, refuses, rising_from, first_fails, by_fits}
 use Rattle.layout.specs.Layout.{encoded, is_record, decoded}
@@ -158,7 +159,7 @@ audit_small s' ram' store' image' book' line' out' u rom w b line out taken piec
     omega (arith, ap (λ (x : Standing). x.used) e, piece_used rom w b line out taken, ap length t, lent_most piece)
 
 module _ (s rom ram store image book line out s' ram' store' image' book' line' out' : List ℕ) (bytes : Bytes s') (r : is_record s' ≡ true)
-    (v : Verdict) (j : verdict_number v ≡ lowest (audit_rows s book line out)) (f : v ≡ verdicts.Fits) where
+    (v : Result ⊤ Refusal) (j : verdict_number v ≡ lowest (audit_rows s book line out)) (f : v ≡ (Ok _)) where
   -- a piece that was read, answered
   pub audit_done : (taken piece : List ℕ) (u p : ℕ) → standing (world (decoded s') ram' store' image') book' line' out' u ≡ piece_audited rom (world (decoded s) ram store image) book line out taken
       → taken ≡ lent piece → p ≡ packed 0 u → auditing p s' ram' store' image' book' line' out' ≡ audit_bytes s rom ram store image book line piece out

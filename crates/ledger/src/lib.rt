@@ -11,7 +11,7 @@ use answers::{pack, refused};
 use auditing::summary::summary_put;
 use changes::change_put;
 use controller::judge::refused_if;
-use controller::{Refusal, Verdict};
+use controller::Refusal;
 use layout::is_record;
 use pieces::{end_audited, piece_audited};
 use timing::ram_allowed;
@@ -50,27 +50,27 @@ fn same_ram(first: &[u8], ram: &[u8]) -> bool
 }
 
 // What an audit is lent, judged: 1, then 7.
-fn judge_audit(state: &[u8], book: &[u64], line: &[u8], out: &[u8]) -> Verdict
+fn judge_audit(state: &[u8], book: &[u64], line: &[u8], out: &[u8]) -> Result<(), Refusal>
     ensures { verdict_number result ≡ lowest (audit_rows state.now book.now line.now out.now) }
 {
-    let sizes = refused_if(!has_sizes(book, line, out), Refusal::Room, Verdict::Fits);
-    refused_if(!is_record(state), Refusal::State, sizes)
+    refused_if(!is_record(state), Refusal::State)?;
+    refused_if(!has_sizes(book, line, out), Refusal::Room)
 }
 
 // What a search for changes is lent, judged: 3, then 7.
-fn judge_changed(book: &[u64], first: &[u8], ram: &[u8], out: &[u8]) -> Verdict
+fn judge_changed(book: &[u64], first: &[u8], ram: &[u8], out: &[u8]) -> Result<(), Refusal>
     ensures { verdict_number result ≡ lowest (changed_rows book.now first.now ram.now out.now) }
 {
-    let room = refused_if(!has_room(book, out), Refusal::Room, Verdict::Fits);
-    refused_if(!same_ram(first, ram), Refusal::Ram, room)
+    refused_if(!same_ram(first, ram), Refusal::Ram)?;
+    refused_if(!has_room(book, out), Refusal::Room)
 }
 
 // What a summary is lent, judged: 1, then 7.
-fn judge_summary(book: &[u64], state: &[u8], out: &[u8]) -> Verdict
+fn judge_summary(book: &[u64], state: &[u8], out: &[u8]) -> Result<(), Refusal>
     ensures { verdict_number result ≡ lowest (summary_rows book.now state.now out.now) }
 {
-    let room = refused_if(!has_room(book, out), Refusal::Room, Verdict::Fits);
-    refused_if(!is_record(state), Refusal::State, room)
+    refused_if(!is_record(state), Refusal::State)?;
+    refused_if(!has_room(book, out), Refusal::Room)
 }
 
 // How much of a piece a value can count.
@@ -111,8 +111,7 @@ pub extern "C" fn gulxinett_audit(
         ≡ audit_bytes state.old rom.now ram.old store.old image.old book.old
         line.old piece.now out.old }
 {
-    let verdict = judge_audit(state, book, line, out);
-    if let Verdict::Refused(why) = verdict {
+    if let Err(why) = judge_audit(state, book, line, out) {
         return refused(why);
     }
     let n = countable(piece);
@@ -137,8 +136,7 @@ pub extern "C" fn gulxinett_audit_end(
         ≡ end_bytes state.old rom.now ram.old store.old image.old book.old
         line.now out.old }
 {
-    let verdict = judge_audit(state, book, line, out);
-    if let Verdict::Refused(why) = verdict {
+    if let Err(why) = judge_audit(state, book, line, out) {
         return refused(why);
     }
     let written = end_audited(book, line, state, rom, ram, store, image, out);
@@ -157,8 +155,7 @@ pub extern "C" fn gulxinett_audit_changed(
     ensures { noting result book.new out.new
         ≡ changed_bytes book.old first.now ram.now from out.old }
 {
-    let verdict = judge_changed(book, first, ram, out);
-    if let Verdict::Refused(why) = verdict {
+    if let Err(why) = judge_changed(book, first, ram, out) {
         return refused(why);
     }
     let change = change_put(first, ram, place_in(from, ram.len()), book[2], out);
@@ -171,8 +168,7 @@ pub extern "C" fn gulxinett_audit_changed(
 pub extern "C" fn gulxinett_audit_summary(book: &mut [u64], state: &[u8], out: &mut [u8]) -> u64
     ensures { noting result book.new out.new ≡ summary_bytes book.old state.now out.old }
 {
-    let verdict = judge_summary(book, state, out);
-    if let Verdict::Refused(why) = verdict {
+    if let Err(why) = judge_summary(book, state, out) {
         return refused(why);
     }
     let written = summary_put(book, state[4] == 1, out);

@@ -8,7 +8,9 @@ use lib.Seq.{take-length}
 use lib.Dec.{leb}
 use borrow.Author.Tests.{leb-true}
 use Rattle.laws.proofs.Bools.{not_fails, both_left}
-use Rattle.controller.specs.declared.WriteAnswer.{WriteAnswer}
+use Rattle.std.specs.declared.result.Result.{Result}
+use Rattle.controller.specs.declared.Refusal.{Refusal}
+use Rattle.std.specs.Prelude.{⊤}
 use Rattle.timing.specs.Lent.{frame_allowed}
 use Rattle.controller.specs.Outcome.{write_number}
 use Rattle.controller.specs.Picture.{afresh}
@@ -39,7 +41,7 @@ unfolding is_photo
 photo_long file e = leb-true 49152 (length file) (both_left (leb 49152 (length file)) _ e)
 
 -- one answer, and one image
-pub only_import : (r s : WriteAnswer) (image image' : List ℕ) → imported (write_number r) image ≡ imported (write_number s) image' → (r ≡ s) × (image ≡ image')
+pub only_import : (r s : Result ⊤ Refusal) (image image' : List ℕ) → imported (write_number r) image ≡ imported (write_number s) image' → (r ≡ s) × (image ≡ image')
 only_import r s image image' e = only_picture r s image image' (λ i. afresh (e i).number (e i).image)
 
 -- a part up to the end is what is left

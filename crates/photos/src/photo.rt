@@ -7,7 +7,7 @@ ghost use Rattle.photos.specs.Photo.{value_of, is_photo, import_rows, imported, 
 
 use super::header::is_header;
 use controller::judge::{no_frame, refused_if};
-use controller::{Refusal, Verdict, WriteAnswer};
+use controller::Refusal;
 
 // The bytes of the pixels, three each, and the longest header.
 const PIXELS: usize = 49152;
@@ -46,22 +46,19 @@ fn is_photo(file: &[u8]) -> bool
 }
 
 // What an import was lent, judged.
-fn judge_import(file: &[u8], image: &[u8]) -> Verdict
+fn judge_import(file: &[u8], image: &[u8]) -> Result<(), Refusal>
     ensures { verdict_number result ≡ lowest (import_rows file.now image.now) }
 {
-    let photo = refused_if(!is_photo(file), Refusal::File, Verdict::Fits);
-    no_frame(image.len(), photo)
+    no_frame(image.len())?;
+    refused_if(!is_photo(file), Refusal::File)
 }
 
 // A photograph, put into a lent image.
-pub fn import(file: &[u8], image: &mut [u8]) -> WriteAnswer
+pub fn import(file: &[u8], image: &mut [u8]) -> Result<(), Refusal>
     ensures { imported (write_number result) image.new ≡ import_means file.now image.old }
 {
-    let verdict = judge_import(file, image);
-    if let Verdict::Refused(why) = verdict {
-        return WriteAnswer::Refused(why);
-    }
+    judge_import(file, image)?;
     let start = file.len() - PIXELS;
     put_image(&file[start..], image);
-    WriteAnswer::Done
+    Ok(())
 }

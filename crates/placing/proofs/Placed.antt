@@ -12,7 +12,9 @@ use Rattle.laws.proofs.Bools.{not_fails, both_left, both_right}
 use Rattle.laws.specs.Pick.{pick}
 use Rattle.controller.specs.declared.Controller.{Controller}
 use Rattle.controller.specs.declared.Refusal.TheVariants.{State, Held}
-use Rattle.controller.specs.declared.WriteAnswer.{WriteAnswer}
+use Rattle.std.specs.declared.result.Result.{Result}
+use Rattle.controller.specs.declared.Refusal.{Refusal}
+use Rattle.std.specs.Prelude.{⊤}
 use Rattle.controller.specs.Outcome.{write_number, outcome}
 use Rattle.controller.specs.Picture.{afresh}
 use Rattle.controller.specs.State.{cant_exist}
@@ -75,7 +77,7 @@ place_same c d ram file e h =
     left c = judged_pick (λ o. o.ram) (lowest (place_rows c ram file)) (placed c ram file) ram (λ k. refl)
 
 -- one answer, and one RAM
-pub only_place : (r s : WriteAnswer) (c : Controller) (ram ram' : List ℕ) → outcome (write_number r) 0 c ram [] ≡ outcome (write_number s) 0 c ram' [] → (r ≡ s) × (ram ≡ ram')
+pub only_place : (r s : Result ⊤ Refusal) (c : Controller) (ram ram' : List ℕ) → outcome (write_number r) 0 c ram [] ≡ outcome (write_number s) 0 c ram' [] → (r ≡ s) × (ram ≡ ram')
 only_place r s c ram ram' e = only_picture r s ram ram' (λ i. afresh (e i).number (e i).ram)
 
 pub plate_length : (file : List ℕ) → is_plate file ≡ true → length file ≡ 14351

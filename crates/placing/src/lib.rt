@@ -10,7 +10,7 @@ ghost use Rattle.placing.specs.Placing.{each, has_header, is_grey, only_greys, i
 ghost use Rattle.placing.specs.Aside.{lows_at, highs_at, unset, unset_bits};
 
 use controller::judge::{no_ram, refused_if};
-use controller::{Controller, Refusal, Verdict, WriteAnswer};
+use controller::{Controller, Refusal};
 use plates::grey::{FILE, HEADER};
 
 // The end of the picture area in RAM bank 0.
@@ -155,22 +155,20 @@ fn put_area(pixels: &[u8], area: &mut [u8])
 }
 
 // What a placing was lent, judged.
-fn judge_place(state: Controller, ram: &[u8], file: &[u8]) -> Verdict
+fn judge_place(state: Controller, ram: &[u8], file: &[u8]) -> Result<(), Refusal>
     ensures { verdict_number result ≡ lowest (place_rows state ram.now file.now) }
 {
-    let held = refused_if(state.held, Refusal::Held, Verdict::Fits);
-    let plate = refused_if(!is_plate(file), Refusal::File, held);
-    state.no_state(no_ram(ram.len(), plate))
+    state.no_state()?;
+    no_ram(ram.len())?;
+    refused_if(!is_plate(file), Refusal::File)?;
+    refused_if(state.held, Refusal::Held)
 }
 
 // A plate's file, placed in RAM bank 0.
-pub fn place(state: Controller, ram: &mut [u8], file: &[u8]) -> WriteAnswer
+pub fn place(state: Controller, ram: &mut [u8], file: &[u8]) -> Result<(), Refusal>
     ensures { outcome (write_number result) 0 state ram.new [] ≡ place_means state ram.old file.now }
 {
-    let verdict = judge_place(state, ram, file);
-    if let Verdict::Refused(why) = verdict {
-        return WriteAnswer::Refused(why);
-    }
+    judge_place(state, ram, file)?;
     put_area(&file[15..FILE], &mut ram[tiles::PICTURE..END]);
-    WriteAnswer::Done
+    Ok(())
 }

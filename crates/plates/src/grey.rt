@@ -6,9 +6,9 @@ ghost use Rattle.controller.specs.Table.{lowest};
 ghost use Rattle.plates.specs.Grey.{header, grey_at, plate_of, export_rows, export_means};
 ghost use Rattle.shades.specs.Shades.{output_number, output_value, exported};
 
-use controller::Verdict;
+use controller::Refusal;
 use controller::judge::{no_ram, no_room};
-use shades::{Output, put_tones};
+use shades::put_tones;
 
 // What a file starts with: kind, columns, rows and largest value.
 pub const HEADER: [u8; 15] = *b"P5\n128 112\n255\n";
@@ -28,9 +28,7 @@ pub fn put_header(out: &mut [u8])
     requires { length out.old ≡ 15 }
     ensures { out.new ≡ header }
 {
-    for k in 0..15 {
-        out[k] = HEADER[k];
-    }
+    out.copy_from_slice(&HEADER);
 }
 
 // The file, at the start of a buffer that has room for it.
@@ -43,20 +41,18 @@ fn put_file(ram: &[u8], out: &mut [u8])
 }
 
 // What an export was lent, judged.
-fn judge_export(ram: &[u8], out: &[u8]) -> Verdict
+fn judge_export(ram: &[u8], out: &[u8]) -> Result<(), Refusal>
     ensures { verdict_number result ≡ lowest (export_rows ram.now out.now) }
 {
-    no_ram(ram.len(), no_room(FILE, out.len(), Verdict::Fits))
+    no_ram(ram.len())?;
+    no_room(FILE, out.len())
 }
 
-// The picture area as a file, in a lent buffer, whose later bytes stay.
-pub fn export(ram: &[u8], out: &mut [u8]) -> Output
+// The picture area as a file, in a lent buffer, whose later bytes stay: how many bytes were written.
+pub fn export(ram: &[u8], out: &mut [u8]) -> Result<u32, Refusal>
     ensures { exported (output_number result) (output_value result) out.new ≡ export_means ram.now out.old }
 {
-    let verdict = judge_export(ram, out);
-    if let Verdict::Refused(why) = verdict {
-        return Output::Refused(why);
-    }
+    judge_export(ram, out)?;
     put_file(ram, out);
-    Output::Bytes(14351)
+    Ok(14351)
 }

@@ -12,30 +12,30 @@ ghost use Rattle.shades.specs.Shades.{output_number, output_value, exported};
 ghost use Rattle.readings.specs.Readings.{readings_of, reading_rows, readings_mean};
 
 use controller::judge::{no_frame, no_room, refused_if};
-use controller::{Controller, Refusal, Verdict};
+use controller::{Controller, Refusal};
 use lighting::Setting;
 use plates::grey::{FILE, put_header};
 use rows::{first_row, next_row};
-use shades::Output;
 
 // All values, row by row: picture row y is sensor row y + 8. What a row needs of the next one is carried on.
-fn put_values(store: &[u8], set: Setting, values: &mut [u8])
-    requires store_len { (length store.now ≡ 16384) × (length values.old ≡ 14336) }
+fn put_values(store: &[u8; 16384], set: Setting, values: &mut [u8])
+    requires values_len { length values.old ≡ 14336 }
     requires sane { Sane set }
     ensures { values.new ≡ listed (λ k. value_at (byte_at store.now) set (k % 128) (k / 128 + 8)) 14336 }
 {
     let mut carried = [0u8; 128];
     first_row(store, set, 8, &mut carried);
+    let mut row = [0u8; 128];
     for y in 0..112 {
+        next_row(store, set, y + 8, &mut carried, &mut row);
         let start = 128 * y;
-        let end = start + 128;
-        next_row(store, set, y + 8, &mut carried, &mut values[start..end]);
+        values[start..start + 128].copy_from_slice(&row);
     }
 }
 
 // The file, at the start of a buffer that has room for it.
-fn put_readings(store: &[u8], regs: &[u8; 54], out: &mut [u8])
-    requires { (length store.now ≡ 16384) × (14351 ≤ length out.old) }
+fn put_readings(store: &[u8; 16384], regs: &[u8; 54], out: &mut [u8])
+    requires { 14351 ≤ length out.old }
     ensures { out.new ≡ readings_of (byte_at store.now) regs.now ++ drop 14351 out.old }
 {
     put_header(&mut out[0..15]);
@@ -43,22 +43,20 @@ fn put_readings(store: &[u8], regs: &[u8; 54], out: &mut [u8])
 }
 
 // What readings are asked of, judged: 1, 4, 7, then 11.
-fn judge_readings(state: Controller, store: &[u8], out: &[u8]) -> Verdict
+fn judge_readings(state: Controller, store: &[u8], out: &[u8]) -> Result<(), Refusal>
     ensures { verdict_number result ≡ lowest (reading_rows state store.now out.now) }
 {
-    let held = refused_if(!state.held, Refusal::NotHeld, Verdict::Fits);
-    state.no_state(no_frame(store.len(), no_room(FILE, out.len(), held)))
+    state.no_state()?;
+    no_frame(store.len())?;
+    no_room(FILE, out.len())?;
+    refused_if(!state.held, Refusal::NotHeld)
 }
 
 // The values of the held capture as a file, in a lent buffer, whose later bytes stay.
-pub fn readings(state: Controller, store: &[u8], out: &mut [u8]) -> Output
+pub fn readings(state: Controller, store: &[u8], out: &mut [u8]) -> Result<u32, Refusal>
     ensures { exported (output_number result) (output_value result) out.new ≡ readings_mean state store.now out.old }
 {
-    let verdict = judge_readings(state, store, out);
-    if let Verdict::Refused(why) = verdict {
-        return Output::Refused(why);
-    }
-    let regs = state.taken;
-    put_readings(store, &regs, out);
-    Output::Bytes(14351)
+    judge_readings(state, store, out)?;
+    put_readings(store.try_into().unwrap(), &state.taken, out);
+    Ok(14351)
 }

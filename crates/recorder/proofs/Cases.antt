@@ -8,30 +8,30 @@ use Rattle.laws.proofs.Order.{split}
 use Rattle.controller.specs.Table.{lowest}
 use Rattle.controller.proofs.Refusals.{judged_ind}
 use Rattle.lines.specs.declared.line.Frame.{Frame}
-use Rattle.recording.specs.declared.record.Recorded.{Recorded}
+use Rattle.std.specs.declared.result.Result.{Result}
+use Rattle.controller.specs.declared.Refusal.{Refusal}
+use Rattle.salvaging.specs.declared.Cleaned.{Cleaned}
+use Rattle.std.specs.Prelude.{Ok, Err}
 use Rattle.recording.specs.Record.{Recording, recorded, record_means}
 use Rattle.recording.proofs.Recorded.{record_most}
-use Rattle.salvaging.specs.declared.Salvaged.{Salvaged}
 use Rattle.salvaging.specs.Salvage.{Salvaging, salvage_rows, salvage_done, salvage_means, salvaged_as}
 use Rattle.salvaging.proofs.Cleaned.{cleaned_long, lines_few}
 use Rattle.salvaging.proofs.Outcomes.{salvage_long}
-use Rattle.recording.specs.declared.record.Recorded.TheVariants as answers
-use Rattle.salvaging.specs.declared.Salvaged.TheVariants as salvages
 use Rattle.answers.specs.Called.{filled}
 use Rattle.recorder.specs.Recorder.{as_line, record_bytes, reported, as_reported, salvage_bytes}
 
 -- ---- a frame written as a line
 
 -- an answer's length is that of its outcome, and so is the answer, whatever the buffer holds
-recorded_length : (a : Recorded) (out : List ℕ) → (recorded a []).length ≡ (recorded a out).length
-recorded_length (answers.Line n) out = refl
-recorded_length (answers.Refused why) out = refl
+recorded_length : (a : Result ℕ Refusal) (out : List ℕ) → (recorded a []).length ≡ (recorded a out).length
+recorded_length (Ok n) out = refl
+recorded_length (Err why) out = refl
 
-recorded_answer : (a : Recorded) (out : List ℕ) → filled (as_line (recorded a [])).answer out ≡ as_line (recorded a out)
-recorded_answer (answers.Line n) out = refl
-recorded_answer (answers.Refused why) out = refl
+recorded_answer : (a : Result ℕ Refusal) (out : List ℕ) → filled (as_line (recorded a [])).answer out ≡ as_line (recorded a out)
+recorded_answer (Ok n) out = refl
+recorded_answer (Err why) out = refl
 
-module _ (f : Frame) (bytes out : List ℕ) (a : Recorded) (left : List ℕ) (means : recorded a left ≡ record_means f bytes out) where
+module _ (f : Frame) (bytes out : List ℕ) (a : Result ℕ Refusal) (left : List ℕ) (means : recorded a left ≡ record_means f bytes out) where
   pub record_short : (recorded a []).length ≤ 261
   record_short = rw (recorded_length a left ∙ ap (λ (r : Recording). r.length) means) (record_most f bytes out)
 
@@ -58,16 +58,16 @@ salvage_most script text report =
     (λ h. rw (salvage_long script text report h) (record { lines = omega arith; length = omega arith }))
     (λ h. short_most script text report h)
 
-module _ (script text report : List ℕ) (r : Salvaged) (text' report' : List ℕ) (means : salvaged_as r text' report' ≡ salvage_means script text report) where
-  salvage_is : (x : Salvaged) → r ≡ x → salvaged_as x text' report' ≡ salvage_means script text report
+module _ (script text report : List ℕ) (r : Result Cleaned Refusal) (text' report' : List ℕ) (means : salvaged_as r text' report' ≡ salvage_means script text report) where
+  salvage_is : (x : Result Cleaned Refusal) → r ≡ x → salvaged_as x text' report' ≡ salvage_means script text report
   salvage_is x f = ap (λ y. salvaged_as y text' report') (sym f) ∙ means
 
-  pub cleaned_most : (n m : ℕ) → r ≡ salvages.Cleaned n m → (m ≤ 32768) × (n ≤ 32769)
+  pub cleaned_most : (n m : ℕ) → r ≡ Ok n m → (m ≤ 32768) × (n ≤ 32769)
   cleaned_most n m f =
-      let o : Most (salvaged_as (salvages.Cleaned n m) text' report') = rw (salvage_is (salvages.Cleaned n m) f) (salvage_most script text report) in
+      let o : Most (salvaged_as (Ok n m) text' report') = rw (salvage_is (Ok n m) f) (salvage_most script text report) in
       (o.lines, o.length)
 
-  pub salvage_reported : (x : Salvaged) → r ≡ x → (p : ℕ) → p ≡ (as_reported (salvaged_as x text' report')).answer → reported p text' report' ≡ salvage_bytes script text report
+  pub salvage_reported : (x : Result Cleaned Refusal) → r ≡ x → (p : ℕ) → p ≡ (as_reported (salvaged_as x text' report')).answer → reported p text' report' ≡ salvage_bytes script text report
   unfolding salvage_bytes
-  salvage_reported (salvages.Cleaned n m) f p q = (λ i. reported (q i) text' report') ∙ ap as_reported (salvage_is (salvages.Cleaned n m) f)
-  salvage_reported (salvages.Refused why) f p q = (λ i. reported (q i) text' report') ∙ ap as_reported (salvage_is (salvages.Refused why) f)
+  salvage_reported (Ok n m) f p q = (λ i. reported (q i) text' report') ∙ ap as_reported (salvage_is (Ok n m) f)
+  salvage_reported (Err why) f p q = (λ i. reported (q i) text' report') ∙ ap as_reported (salvage_is (Err why) f)

@@ -3,7 +3,7 @@ ghost use Rattle.std.specs.Prelude.{◌≡◌, ◌+◌, ◌*◌, ◌≤◌};
 ghost use Rattle.recorder.specs.Recorder.{reported, salvage_bytes};
 
 use answers::{pack, refused};
-use salvaging::{Salvaged, salvage};
+use salvaging::{Cleaned, salvage};
 
 // The number of lines and the text's length as one value.
 fn counts(lines: usize, length: usize) -> u32
@@ -18,9 +18,8 @@ fn counts(lines: usize, length: usize) -> u32
 pub extern "C" fn gulxinett_salvage(script: &[u8], text: &mut [u8], report: &mut [u8]) -> u64
     ensures { reported result text.new report.new ≡ salvage_bytes script.now text.old report.old }
 {
-    let answer = salvage(script, text, report);
-    match answer {
-        Salvaged::Cleaned(length, lines) => pack(0, counts(lines, length)),
-        Salvaged::Refused(why) => refused(why),
+    match salvage(script, text, report) {
+        Ok(Cleaned { length, lines }) => pack(0, counts(lines, length)),
+        Err(why) => refused(why),
     }
 }

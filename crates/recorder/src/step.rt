@@ -6,17 +6,17 @@ ghost use Rattle.recorder.specs.Steps.{stepped, step_rows, step_bytes};
 
 use answers::{pack, refused};
 use controller::judge::{no_room, refused_if};
-use controller::{Refusal, Verdict};
+use controller::Refusal;
 use layout::is_record;
 use session::answer::ANSWER;
 use session::session::line_done;
 
 // What a step was lent, judged: 1, then 7.
-fn judge_step(state: &[u8], out: &[u8]) -> Verdict
+fn judge_step(state: &[u8], out: &[u8]) -> Result<(), Refusal>
     ensures { verdict_number result ≡ lowest (step_rows state.now out.now) }
 {
-    let room = no_room(ANSWER, out.len(), Verdict::Fits);
-    refused_if(!is_record(state), Refusal::State, room)
+    refused_if(!is_record(state), Refusal::State)?;
+    no_room(ANSWER, out.len())
 }
 
 // Carries out a script line, without its LF, and puts its answer with the LF at the start of a buffer. The answer's value is that length.
@@ -34,8 +34,7 @@ pub extern "C" fn gulxinett_step(
         ≡ step_bytes state.old rom.now ram.old store.old image.old
         line.now out.old }
 {
-    let verdict = judge_step(state, out);
-    if let Verdict::Refused(why) = verdict {
+    if let Err(why) = judge_step(state, out) {
         return refused(why);
     }
     let length = line_done(state, rom, ram, store, image, line, out, 0);

@@ -18,8 +18,9 @@ use Rattle.controller.proofs.Only.{some_number, only_number}
 use Rattle.controller.proofs.Refusals.{Refuses}
 use Rattle.lines.specs.declared.line.Frame.{Frame}
 use Rattle.lines.specs.declared.line.Frame.TheVariants.{Reset, Read, Write, Tick, Row, Malformed}
-use Rattle.recording.specs.declared.record.Recorded.{Recorded}
-use Rattle.recording.specs.declared.record.Recorded.TheVariants as answers
+use Rattle.std.specs.declared.result.Result.{Result}
+use Rattle.controller.specs.declared.Refusal.{Refusal}
+use Rattle.std.specs.Prelude.{Ok, Err}
 use Rattle.lines.specs.Hex.{digit_byte, hex_text, placed}
 use Rattle.lines.specs.Line.{is_line, worth, hex_part, number_at, spelled, frame_of}
 use Rattle.recording.specs.Record.{row_hex, row_line, line_of, cant_say, ended, record_rows, Recording, unrecorded, filled, record_means, recorded, bytes_at}
@@ -209,15 +210,15 @@ module _ (f : Frame) (bytes out : List ℕ) where
 
 -- ---- no second outcome fits: one answer, and one list of bytes
 
-only_answer : (r s : Recorded) (out out' : List ℕ) → recorded r out ≡ recorded s out' → r ≡ s
-only_answer (answers.Line n) (answers.Line m) out out' e = ap answers.Line (λ i. (e i).length)
-only_answer (answers.Line n) (answers.Refused s) out out' e = absurd (some_number s (λ i. (e i).number))
-only_answer (answers.Refused r) (answers.Line m) out out' e = absurd (some_number r (sym (λ i. (e i).number)))
-only_answer (answers.Refused r) (answers.Refused s) out out' e = ap answers.Refused (only_number r s (λ i. (e i).number))
+only_answer : (r s : Result ℕ Refusal) (out out' : List ℕ) → recorded r out ≡ recorded s out' → r ≡ s
+only_answer (Ok n) (Ok m) out out' e = ap Ok (λ i. (e i).length)
+only_answer (Ok n) (Err s) out out' e = absurd (some_number s (λ i. (e i).number))
+only_answer (Err r) (Ok m) out out' e = absurd (some_number r (sym (λ i. (e i).number)))
+only_answer (Err r) (Err s) out out' e = ap Err (only_number r s (λ i. (e i).number))
 
-left : (r : Recorded) (out : List ℕ) → (recorded r out).out ≡ out
-left (answers.Line n) out = refl
-left (answers.Refused r) out = refl
+left : (r : Result ℕ Refusal) (out : List ℕ) → (recorded r out).out ≡ out
+left (Ok n) out = refl
+left (Err r) out = refl
 
-pub only_recorded : (r s : Recorded) (out out' : List ℕ) → recorded r out ≡ recorded s out' → (r ≡ s) × (out ≡ out')
+pub only_recorded : (r s : Result ℕ Refusal) (out out' : List ℕ) → recorded r out ≡ recorded s out' → (r ≡ s) × (out ≡ out')
 only_recorded r s out out' e = (only_answer r s out out' e, sym (left r out) ∙ ap (λ (m : Recording). m.out) e ∙ left s out')

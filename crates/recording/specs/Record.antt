@@ -5,8 +5,9 @@ use Rattle.controller.specs.Outcome.{number_of}
 use Rattle.controller.specs.Table.{Row, row, lowest, judged}
 use Rattle.lines.specs.declared.line.Frame.{Frame}
 use Rattle.lines.specs.declared.line.Frame.TheVariants.{Reset, Read, Write, Tick, Row as RowFrame, Malformed}
-use Rattle.recording.specs.declared.record.Recorded.{Recorded}
-use Rattle.recording.specs.declared.record.Recorded.TheVariants as answers
+use Rattle.std.specs.declared.result.Result.{Result}
+use Rattle.controller.specs.declared.Refusal.{Refusal}
+use Rattle.std.specs.Prelude.{Ok, Err}
 use Rattle.lines.specs.Hex.{hex_text, placed}
 use Rattle.lines.specs.Line.{number_at}
 
@@ -92,9 +93,9 @@ unfoldable pub record_means : Frame → List ℕ → List ℕ → Recording
 record_means f bytes out = line_means (cant_say f bytes) (line_of f bytes) out
 
 -- the number and the length of each case of an answer
-abbrev pub recorded : Recorded → List ℕ → Recording
-recorded (answers.Line n) out = recording 0 n out
-recorded (answers.Refused why) out = recording (number_of why) 0 out
+abbrev pub recorded : Result ℕ Refusal → List ℕ → Recording
+recorded (Ok n) out = recording 0 n out
+recorded (Err why) out = recording (number_of why) 0 out
 
 -- n bytes of a line from a place on, two digits each, as the reader takes them
 unfoldable pub bytes_at : List ℕ → ℕ → ℕ → List ℕ

@@ -6,7 +6,7 @@ ghost use Rattle.lines.specs.Hex.{hex_text, placed};
 ghost use Rattle.recording.specs.Record.{row_hex, row_line, row_allowed, ended, too_short, line_means, record_means, recorded};
 
 use controller::judge::refused_if;
-use controller::{Refusal, Verdict};
+use controller::Refusal;
 use lines::hex::{digit_byte, put_digits, put_line};
 use lines::line::Frame;
 
@@ -15,18 +15,11 @@ pub const ROW: usize = 128;
 
 pub const ROW_LINE: usize = 261;
 
-// The length of the line written, with its LF; or why none was.
-#[derive(Clone, Copy)]
-pub enum Recorded {
-    Line(usize),
-    Refused(Refusal),
-}
-
 // 7: the buffer is shorter than the line with its LF.
-fn no_room(room: usize, length: usize) -> Verdict
+fn no_room(room: usize, length: usize) -> Result<(), Refusal>
     ensures { verdict_number result ≡ before (too_short room length) 0 }
 {
-    refused_if(room < length, Refusal::Room, Verdict::Fits)
+    refused_if(room < length, Refusal::Room)
 }
 
 // Whether a row has a line: 00 to 7F, with 128 bytes.
@@ -39,41 +32,38 @@ fn row_allowed(y: u8, length: usize) -> bool
     length == ROW
 }
 
-// Writes a kind, so many digits of a value, and LF.
-fn record_digits(kind: u32, digits: usize, value: u32, out: &mut [u8]) -> Recorded
+// Writes a kind, so many digits of a value, and LF: the length of the line with its LF, as each of these functions answers.
+fn record_digits(kind: u32, digits: usize, value: u32, out: &mut [u8]) -> Result<usize, Refusal>
     requires { digits ≤ 8 }
     ensures { recorded result out.new ≡ line_means false (hex_text 2 kind ++ hex_text digits value) out.old }
 {
-    let verdict = no_room(out.len(), 3 + digits);
-    if let Verdict::Refused(why) = verdict {
-        return Recorded::Refused(why);
-    }
-    Recorded::Line(put_line(out, 0, kind, digits, value))
+    no_room(out.len(), 3 + digits)?;
+    Ok(put_line(out, 0, kind, digits, value))
 }
 
 // `00` reset.
-pub fn record_reset(out: &mut [u8]) -> Recorded
+pub fn record_reset(out: &mut [u8]) -> Result<usize, Refusal>
     ensures { recorded result out.new ≡ record_means Frame.Reset [] out.old }
 {
     record_digits(0, 0, 0, out)
 }
 
 // `01` four-digit address.
-pub fn record_read(address: u16, out: &mut [u8]) -> Recorded
+pub fn record_read(address: u16, out: &mut [u8]) -> Result<usize, Refusal>
     ensures { recorded result out.new ≡ record_means (Frame.Read address) [] out.old }
 {
     record_digits(1, 4, address as u32, out)
 }
 
 // `02` four-digit address, byte: six digits of the two as one number.
-pub fn record_write(address: u16, value: u8, out: &mut [u8]) -> Recorded
+pub fn record_write(address: u16, value: u8, out: &mut [u8]) -> Result<usize, Refusal>
     ensures { recorded result out.new ≡ record_means (Frame.Write address value) [] out.old }
 {
     record_digits(2, 6, address as u32 * 256 + value as u32, out)
 }
 
 // `03` eight-digit tick.
-pub fn record_tick(cycles: u32, out: &mut [u8]) -> Recorded
+pub fn record_tick(cycles: u32, out: &mut [u8]) -> Result<usize, Refusal>
     ensures { recorded result out.new ≡ record_means (Frame.Tick cycles) [] out.old }
 {
     record_digits(3, 8, cycles, out)
@@ -105,14 +95,11 @@ fn put_row(out: &mut [u8], row: u8, bytes: &[u8])
 }
 
 // `04` row and 128 bytes of the image.
-pub fn record_row(row: u8, bytes: &[u8], out: &mut [u8]) -> Recorded
+pub fn record_row(row: u8, bytes: &[u8], out: &mut [u8]) -> Result<usize, Refusal>
     ensures { recorded result out.new ≡ record_means (Frame.Row row) bytes.now out.old }
 {
-    let room = no_room(out.len(), ROW_LINE);
-    let verdict = refused_if(!row_allowed(row, bytes.len()), Refusal::Line, room);
-    if let Verdict::Refused(why) = verdict {
-        return Recorded::Refused(why);
-    }
+    refused_if(!row_allowed(row, bytes.len()), Refusal::Line)?;
+    no_room(out.len(), ROW_LINE)?;
     put_row(out, row, bytes);
-    Recorded::Line(ROW_LINE)
+    Ok(ROW_LINE)
 }

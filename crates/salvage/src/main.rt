@@ -5,7 +5,7 @@ ghost use Rattle.std.specs.Prelude.{◌≡◌};
 ghost use Rattle.std.specs.Counts.{IsPrefixLen};
 ghost use Rattle.salvage.specs.Counted.{counted};
 
-use salvaging::Salvaged;
+use salvaging::Cleaned;
 use salvaging::put::{KEPT, MALFORMED, REPEATED};
 use std::io::{Read, Write};
 
@@ -106,16 +106,15 @@ fn clean(
     text: &mut [u8],
     report: &mut [u8],
 ) {
-    let answer = salvaging::salvage(script, text, report);
-    match answer {
-        Salvaged::Cleaned(length, lines) => {
+    match salvaging::salvage(script, text, report) {
+        Ok(Cleaned { length, lines }) => {
             let n = within(length, text);
             let m = within(lines, report);
             finish(rt, sink, &text[..n], &report[..m]);
         }
-        Salvaged::Refused(why) => {
+        Err(why) => {
             say(rt, "salvage: refused by ");
-            number(rt, u64::from(why.number()));
+            number(rt, u64::from(u32::from(why)));
             say(rt, ": a script has at most 32768 bytes\n");
         }
     }

@@ -5,8 +5,10 @@ use Rattle.controller.specs.Outcome.{number_of}
 use Rattle.controller.specs.Table.{Row, row, no_room, lowest, judged}
 use Rattle.lines.specs.Hex.{placed}
 use Rattle.script.specs.Text.{lines_of}
-use Rattle.salvaging.specs.declared.Salvaged.{Salvaged}
-use Rattle.salvaging.specs.declared.Salvaged.TheVariants as answers
+use Rattle.std.specs.declared.result.Result.{Result}
+use Rattle.controller.specs.declared.Refusal.{Refusal}
+use Rattle.salvaging.specs.declared.Cleaned.{Cleaned}
+use Rattle.std.specs.Prelude.{Ok, Err}
 use Rattle.salvaging.specs.Kept.{salvaged, text_of, report_of}
 
 -- the cleaned text of a script
@@ -54,6 +56,6 @@ salvage_means script text report =
     judged (lowest (salvage_rows script text report)) (unsalvaged text report) (salvage_done script text report)
 
 -- the number and the two values of each case of an answer
-abbrev pub salvaged_as : Salvaged → List ℕ → List ℕ → Salvaging
-salvaged_as (answers.Cleaned length lines) text report = salvaging 0 length lines text report
-salvaged_as (answers.Refused why) text report = salvaging (number_of why) 0 0 text report
+abbrev pub salvaged_as : Result Cleaned Refusal → List ℕ → List ℕ → Salvaging
+salvaged_as (Ok c) text report = salvaging 0 c.length c.lines text report
+salvaged_as (Err why) text report = salvaging (number_of why) 0 0 text report

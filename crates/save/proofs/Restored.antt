@@ -12,7 +12,9 @@ use borrow.Author.Tests.{eqb-true}
 use Rattle.laws.proofs.Bools.{both_left, both_right, not_fails}
 use Rattle.timing.specs.Lent.{banks_allowed, ram_allowed}
 use Rattle.timing.proofs.Lent.{ram_lent}
-use Rattle.controller.specs.declared.WriteAnswer.{WriteAnswer}
+use Rattle.std.specs.declared.result.Result.{Result}
+use Rattle.controller.specs.declared.Refusal.{Refusal}
+use Rattle.std.specs.Prelude.{⊤}
 use Rattle.controller.specs.State.{reset_state}
 use Rattle.controller.specs.Outcome.{outcome, write_number}
 use Rattle.controller.specs.Table.{lowest}
@@ -76,7 +78,7 @@ taken file o {o'} at n m e h l f =
 -- ---- refusals
 
 -- no second outcome fits
-pub only_restore : (a b : WriteAnswer) (s s' ram ram' store store' : List ℕ) → restored (write_number a) s ram store ≡ restored (write_number b) s' ram' store' → (a ≡ b) × (s ≡ s') × (ram ≡ ram') × (store ≡ store')
+pub only_restore : (a b : Result ⊤ Refusal) (s s' ram ram' store store' : List ℕ) → restored (write_number a) s ram store ≡ restored (write_number b) s' ram' store' → (a ≡ b) × (s ≡ s') × (ram ≡ ram') × (store ≡ store')
 only_restore a b s s' ram ram' store store' e =
     let w = only_write (record { state = reset_state; answer = a }) (record { state = reset_state; answer = b }) ram ram' store store' (λ i. outcome (e i).number 0 reset_state (e i).ram (e i).store) in
     (λ i. (w.0 i).answer, λ i. (e i).state, w.1, w.2)

@@ -8,7 +8,7 @@ ghost use Rattle.save.specs.Restore.{ram_length_in, is_sized, has_magic, is_save
 
 use super::parts::{FRONT, MAGIC, REST, is_state, put};
 use controller::judge::{no_frame, no_ram, refused_if};
-use controller::{Controller, Refusal, Verdict, WriteAnswer};
+use controller::{Controller, Refusal};
 use crc::crc32;
 use layout::{STATE_LEN, four_at};
 use placing::begins;
@@ -74,29 +74,26 @@ fn is_other(good: bool, file: &[u8], ram: usize) -> bool
 }
 
 // What a restoring was lent, judged: 1, 3, 4, then 8. The checksum is worked out once.
-fn judge_restore(file: &[u8], state: &[u8], ram: &[u8], store: &[u8]) -> Verdict
+fn judge_restore(file: &[u8], state: &[u8], ram: &[u8], store: &[u8]) -> Result<(), Refusal>
     ensures { verdict_number result ≡ lowest (restore_rows file.now state.now ram.now store.now) }
 {
+    refused_if(state.len() != STATE_LEN, Refusal::State)?;
+    no_ram(ram.len())?;
     let good = is_save(file);
-    let no_save = refused_if(!good, Refusal::File, Verdict::Fits);
-    let no_store = no_frame(store.len(), no_save);
-    let other = refused_if(is_other(good, file, ram.len()), Refusal::Ram, no_store);
-    let lent = no_ram(ram.len(), other);
-    refused_if(state.len() != STATE_LEN, Refusal::State, lent)
+    refused_if(is_other(good, file, ram.len()), Refusal::Ram)?;
+    no_frame(store.len())?;
+    refused_if(!good, Refusal::File)
 }
 
 // A save's state, RAM and frame store, in what is lent.
-pub fn restore(file: &[u8], state: &mut [u8], ram: &mut [u8], store: &mut [u8]) -> WriteAnswer
+pub fn restore(file: &[u8], state: &mut [u8], ram: &mut [u8], store: &mut [u8]) -> Result<(), Refusal>
     ensures { restored (write_number result) state.new ram.new store.new
         ≡ restore_means file.now state.old ram.old store.old }
 {
-    let verdict = judge_restore(file, state, ram, store);
-    if let Verdict::Refused(why) = verdict {
-        return WriteAnswer::Refused(why);
-    }
+    judge_restore(file, state, ram, store)?;
     let end = FRONT + ram.len();
     put(&file[7..FRONT], state, 0);
     put(&file[FRONT..end], ram, 0);
     put(&file[end..end + Controller::FRAME], store, 0);
-    WriteAnswer::Done
+    Ok(())
 }

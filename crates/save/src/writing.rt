@@ -8,9 +8,8 @@ ghost use Rattle.save.specs.Save.{magic, body_of, save_of, save_length, save_row
 
 use super::parts::{FRONT, MAGIC, REST, is_state, put};
 use controller::judge::{no_frame, no_ram, refused_if};
-use controller::{Controller, Refusal, Verdict};
+use controller::{Controller, Refusal};
 use crc::crc32;
-use shades::Output;
 
 // The magic, and the number of the RAM's banks.
 fn put_magic(banks: u8, out: &mut [u8])
@@ -70,23 +69,21 @@ fn is_short(ram: usize, out: usize) -> bool
 }
 
 // What a save was lent, judged: 1, 3, 4, then 7.
-fn judge_save(state: &[u8], ram: &[u8], store: &[u8], out: &[u8]) -> Verdict
+fn judge_save(state: &[u8], ram: &[u8], store: &[u8], out: &[u8]) -> Result<(), Refusal>
     ensures { verdict_number result ≡ lowest (save_rows state.now ram.now store.now out.now) }
 {
-    let room = refused_if(is_short(ram.len(), out.len()), Refusal::Room, Verdict::Fits);
-    let lent = no_ram(ram.len(), no_frame(store.len(), room));
-    refused_if(!is_state(state), Refusal::State, lent)
+    refused_if(!is_state(state), Refusal::State)?;
+    no_ram(ram.len())?;
+    no_frame(store.len())?;
+    refused_if(is_short(ram.len(), out.len()), Refusal::Room)
 }
 
-// State, RAM and frame store as one file, in a lent buffer, whose later bytes stay.
-pub fn save(state: &[u8], ram: &[u8], store: &[u8], out: &mut [u8]) -> Output
+// State, RAM and frame store as one file, in a lent buffer, whose later bytes stay: how many bytes were written.
+pub fn save(state: &[u8], ram: &[u8], store: &[u8], out: &mut [u8]) -> Result<u32, Refusal>
     ensures { exported (output_number result) (output_value result) out.new
         ≡ save_means state.now ram.now store.now out.old }
 {
-    let verdict = judge_save(state, ram, store, out);
-    if let Verdict::Refused(why) = verdict {
-        return Output::Refused(why);
-    }
+    judge_save(state, ram, store, out)?;
     put_save(state, ram, store, out);
-    Output::Bytes((REST + ram.len()) as u32)
+    Ok((REST + ram.len()) as u32)
 }

@@ -11,16 +11,17 @@ ghost use Rattle.session.specs.Session.{world, step, row_taken, row_image, row_t
 ghost use Rattle.session.specs.Aside.{Short, Obeys, Carried, Printed, said, saying};
 
 use super::answer::{Answer, put_answer};
-use controller::{Controller, ReadAnswer, Refusal, TickAnswer, WriteAnswer};
+use controller::{Controller, Refusal};
 use layout::{decode, encode};
 use lines::line::{Frame, byte_at, frame_of};
+use timing::Cycles;
 
 // A refusal prints its number alone.
 fn refused(r: Refusal) -> Answer
     ensures { (text_of result ≡ answer_text (number_of r) 0 0) × Short result × (result.value ≡ 0) }
 {
     Answer {
-        number: r.number(),
+        number: u32::from(r),
         digits: 0,
         value: 0,
     }
@@ -38,40 +39,40 @@ fn done() -> Answer
 }
 
 // After a read the byte.
-fn read_answer(r: ReadAnswer) -> Answer
+fn read_answer(r: Result<u8, Refusal>) -> Answer
     ensures { (text_of result ≡ answer_text (read_number r) 2 (read_value r)) × Short result }
 {
     match r {
-        ReadAnswer::Byte(b) => Answer {
+        Ok(b) => Answer {
             number: 0,
             digits: 2,
-            value: b as u32,
+            value: u32::from(b),
         },
-        ReadAnswer::Refused(n) => refused(n),
+        Err(why) => refused(why),
     }
 }
 
 // After a write nothing but the number.
-fn write_answer(r: WriteAnswer) -> Answer
+fn write_answer(r: Result<(), Refusal>) -> Answer
     ensures { (text_of result ≡ answer_text (write_number r) 0 0) × Short result }
 {
     match r {
-        WriteAnswer::Done => done(),
-        WriteAnswer::Refused(n) => refused(n),
+        Ok(()) => done(),
+        Err(why) => refused(why),
     }
 }
 
 // After a tick eight digits of running cycles.
-fn tick_answer(r: TickAnswer) -> Answer
+fn tick_answer(r: Result<Cycles, Refusal>) -> Answer
     ensures { (text_of result ≡ answer_text (tick_number r) 8 (tick_value r)) × Short result × (result.value ≡ tick_value r) }
 {
     match r {
-        TickAnswer::Ran(n) => Answer {
+        Ok(n) => Answer {
             number: 0,
             digits: 8,
             value: n.0,
         },
-        TickAnswer::Refused(n) => refused(n),
+        Err(why) => refused(why),
     }
 }
 

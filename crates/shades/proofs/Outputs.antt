@@ -10,8 +10,9 @@ use Rattle.timing.specs.Lent.{ram_allowed}
 use Rattle.controller.specs.Table.{no_ram, no_room, lowest}
 use Rattle.controller.proofs.Only.{only_number, some_number}
 use Rattle.controller.proofs.Refusals.{Refuses, refuses, rising_from, first_fails}
-use Rattle.shades.specs.declared.Output.{Output}
-use Rattle.shades.specs.declared.Output.TheVariants as outputs
+use Rattle.std.specs.declared.result.Result.{Result}
+use Rattle.controller.specs.declared.Refusal.{Refusal}
+use Rattle.std.specs.Prelude.{Ok, Err}
 use Rattle.shades.specs.Shades.{Exported, exported, output_number, output_value, shades_of, shades_rows, shades_means}
 
 abbrev pub in_exported : Exported → ℕ
@@ -35,11 +36,11 @@ unfolding shades_rows
 shades_fits ram out e = room_fits 14336 ram out e
 
 -- one answer, and one list of bytes
-pub only_export : (r s : Output) (bytes bytes' : List ℕ) → exported (output_number r) (output_value r) bytes ≡ exported (output_number s) (output_value s) bytes' → (r ≡ s) × (bytes ≡ bytes')
+pub only_export : (r s : Result ℕ Refusal) (bytes bytes' : List ℕ) → exported (output_number r) (output_value r) bytes ≡ exported (output_number s) (output_value s) bytes' → (r ≡ s) × (bytes ≡ bytes')
 only_export r s bytes bytes' e = (answer r s (λ i. (e i).number) (λ i. (e i).value), λ i. (e i).bytes)
   where
-    answer : (r s : Output) → output_number r ≡ output_number s → output_value r ≡ output_value s → r ≡ s
-    answer (outputs.Bytes n) (outputs.Bytes m) p q = ap outputs.Bytes q
-    answer (outputs.Bytes n) (outputs.Refused w) p q = absurd (some_number w p)
-    answer (outputs.Refused w) (outputs.Bytes m) p q = absurd (some_number w (sym p))
-    answer (outputs.Refused w) (outputs.Refused v) p q = ap outputs.Refused (only_number w v p)
+    answer : (r s : Result ℕ Refusal) → output_number r ≡ output_number s → output_value r ≡ output_value s → r ≡ s
+    answer (Ok n) (Ok m) p q = ap Ok q
+    answer (Ok n) (Err w) p q = absurd (some_number w p)
+    answer (Err w) (Ok m) p q = absurd (some_number w (sym p))
+    answer (Err w) (Err v) p q = ap Err (only_number w v p)

@@ -4,8 +4,9 @@ use Rattle.laws.specs.Lists.{listed}
 use Rattle.tiles.specs.Tiles.{shade_in}
 use Rattle.controller.specs.Outcome.{number_of}
 use Rattle.controller.specs.Table.{Row, no_ram, no_room, lowest, judged}
-use Rattle.shades.specs.declared.Output.{Output}
-use Rattle.shades.specs.declared.Output.TheVariants as outputs
+use Rattle.std.specs.declared.result.Result.{Result}
+use Rattle.controller.specs.declared.Refusal.{Refusal}
+use Rattle.std.specs.Prelude.{Ok, Err}
 
 -- the shade of pixel k, row by row: column k mod 128 of row k/128
 abbrev pub shade_nth : List ℕ → ℕ → ℕ
@@ -29,13 +30,13 @@ abbrev pub exported : ℕ → ℕ → List ℕ → Exported
 exported n v bytes = record { number = n; value = v; bytes = bytes }
 
 -- what such a call answers: the bytes written, or none
-abbrev pub output_number : Output → ℕ
-output_number (outputs.Bytes n) = 0
-output_number (outputs.Refused why) = number_of why
+abbrev pub output_number : Result ℕ Refusal → ℕ
+output_number (Ok n) = 0
+output_number (Err why) = number_of why
 
-abbrev pub output_value : Output → ℕ
-output_value (outputs.Bytes n) = n
-output_value (outputs.Refused why) = 0
+abbrev pub output_value : Result ℕ Refusal → ℕ
+output_value (Ok n) = n
+output_value (Err why) = 0
 
 -- bytes beyond stay. Refused, nothing is written
 unfoldable pub shades_means : List ℕ → List ℕ → Exported

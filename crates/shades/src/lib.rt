@@ -10,14 +10,7 @@ ghost use Rattle.shades.specs.Shades.{shade_nth, output_number, output_value, ex
 ghost use Rattle.shades.specs.Aside.{Built, Weight, Low, Eight, put_eight, tone_nth};
 
 use controller::judge::{no_ram, no_room};
-use controller::{Refusal, Verdict};
-
-// How many bytes were written, or why none.
-#[derive(Clone, Copy)]
-pub enum Output {
-    Bytes(u32),
-    Refused(Refusal),
-}
+use controller::Refusal;
 
 // The bytes from w to twice w, where w has one bit: each adds what that bit is to a byte below w.
 fn double(t: &mut [u64; 256], step: u8, w: usize, bit: u64)
@@ -110,20 +103,18 @@ fn put_shades(ram: &[u8], pixels: &mut [u8])
 }
 
 // What a reading of shades was lent, judged.
-fn judge_shades(ram: &[u8], out: &[u8]) -> Verdict
+fn judge_shades(ram: &[u8], out: &[u8]) -> Result<(), Refusal>
     ensures { verdict_number result ≡ lowest (shades_rows ram.now out.now) }
 {
-    no_ram(ram.len(), no_room(tiles::PIXELS, out.len(), Verdict::Fits))
+    no_ram(ram.len())?;
+    no_room(tiles::PIXELS, out.len())
 }
 
-// The picture area's shades, in a lent buffer, whose later bytes stay.
-pub fn shades(ram: &[u8], out: &mut [u8]) -> Output
+// The picture area's shades, in a lent buffer, whose later bytes stay: how many bytes were written.
+pub fn shades(ram: &[u8], out: &mut [u8]) -> Result<u32, Refusal>
     ensures { exported (output_number result) (output_value result) out.new ≡ shades_means ram.now out.old }
 {
-    let verdict = judge_shades(ram, out);
-    if let Verdict::Refused(why) = verdict {
-        return Output::Refused(why);
-    }
+    judge_shades(ram, out)?;
     put_shades(ram, &mut out[0..tiles::PIXELS]);
-    Output::Bytes(14336)
+    Ok(14336)
 }

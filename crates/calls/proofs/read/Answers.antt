@@ -13,24 +13,24 @@ use Rattle.calls.proofs.read.Goals as goal
 
 -- what it is judged as is `read_judged`
 
-pub returns-in-Refused : goal.returns-in-Refused
-returns-in-Refused c =
-    let judged = read_judged _ _ _ _ c.no_state-verdict.result c.lent_to_read.result c.no_state-verdict.ensures c.lent_to_read.ensures in
-    put_bytes_lem (same _ (λ i. (c.type_inv.state i).fits) c.requires) (by_why (read_refuses _ _ _ _) _ judged _ c.in-Refused.is)
+pub returns-in_err-no_state : goal.returns-in_err-no_state
+returns-in_err-no_state c =
+    let judged = read_judged _ _ _ _ c.no_state.result c.lent_to_read.result c.no_state.ensures c.lent_to_read.ensures in
+    put_bytes_lem (same _ (λ i. (c.type_inv.state i).fits) c.requires) (by_why (read_refuses _ _ _ _) _ judged _ c.in_err-no_state.was)
 
 pub byte_read-byte-requires : goal.byte_read-byte-requires
 byte_read-byte-requires c =
-    let judged = read_judged _ _ _ _ c.no_state-verdict.result c.lent_to_read.result c.no_state-verdict.ensures c.lent_to_read.ensures in
-    let f = read_fits _ _ _ _ (fits_none _ _ judged c.in_default.is) in
+    let judged = read_judged _ _ _ _ c.no_state.result c.lent_to_read.result c.no_state.ensures c.lent_to_read.ensures in
+    let f = read_fits _ _ _ _ (fits_none _ _ judged c.in_ok-no_state.was) in
     (f.rom_fits, f.ram_fits)
 
 pub returns : goal.returns
 returns c =
     let a = c.args in
-    let judged = read_judged _ _ _ _ c.no_state-verdict.result c.lent_to_read.result c.no_state-verdict.ensures c.lent_to_read.ensures in
+    let judged = read_judged _ _ _ _ c.no_state.result c.lent_to_read.result c.no_state.ensures c.lent_to_read.ensures in
     put_bytes_lem (same _ (λ i. (c.type_inv.state i).fits) c.requires)
     (ap (λ (b : ℕ). outcome 0 b (decoded a.state.now) a.ram.now []) (c.byte_read-byte.ensures ∙ read_at a.state.now _ _ _)
-    ∙ by_fits (read_refuses _ _ _ _) _ judged c.in_default.is)
+    ∙ by_fits (read_refuses _ _ _ _) _ judged c.in_ok-no_state.was)
 
 pub bounds-state-2 : goal.bounds-state-2
 bounds-state-2 c = omega (arith, long _ c.requires)

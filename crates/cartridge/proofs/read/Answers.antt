@@ -10,20 +10,20 @@ use Rattle.cartridge.proofs.read.Goals as goal
 
 -- what it is judged as is `read_judged`
 
-pub returns-in-Refused : goal.returns-in-Refused
-returns-in-Refused c =
-    let judged = read_judged _ _ _ _ c.no_state-verdict.result c.lent_to_read.result c.no_state-verdict.ensures c.lent_to_read.ensures in
-    by_why (read_refuses _ _ _ _) _ judged _ c.in-Refused.is
+pub returns-in_err-no_state : goal.returns-in_err-no_state
+returns-in_err-no_state c =
+    let judged = read_judged _ _ _ _ c.no_state.result c.lent_to_read.result c.no_state.ensures c.lent_to_read.ensures in
+    by_why (read_refuses _ _ _ _) _ judged _ c.in_err-no_state.was
 
 pub byte_read-byte-requires : goal.byte_read-byte-requires
 byte_read-byte-requires c =
-    let judged = read_judged _ _ _ _ c.no_state-verdict.result c.lent_to_read.result c.no_state-verdict.ensures c.lent_to_read.ensures in
-    let f = read_fits _ _ _ _ (fits_none _ _ judged c.in_default.is) in
+    let judged = read_judged _ _ _ _ c.no_state.result c.lent_to_read.result c.no_state.ensures c.lent_to_read.ensures in
+    let f = read_fits _ _ _ _ (fits_none _ _ judged c.in_ok-no_state.was) in
     (f.rom_fits, f.ram_fits)
 
 pub returns : goal.returns
 returns c =
     let a = c.args in
-    let judged = read_judged _ _ _ _ c.no_state-verdict.result c.lent_to_read.result c.no_state-verdict.ensures c.lent_to_read.ensures in
+    let judged = read_judged _ _ _ _ c.no_state.result c.lent_to_read.result c.no_state.ensures c.lent_to_read.ensures in
     ap (λ (b : ℕ). outcome 0 b a.state a.ram.now []) (c.byte_read-byte.ensures ∙ faced_read a.state _ _ _ refl refl refl)
-    ∙ by_fits (read_refuses _ _ _ _) _ judged c.in_default.is
+    ∙ by_fits (read_refuses _ _ _ _) _ judged c.in_ok-no_state.was

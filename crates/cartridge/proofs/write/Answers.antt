@@ -9,18 +9,18 @@ use Rattle.cartridge.proofs.write.Goals as goal
 
 -- what it is judged as is `write_judged`
 
-pub returns-in-Refused : goal.returns-in-Refused
-returns-in-Refused c =
-    let judged = write_judged _ _ _ _ _ c.no_state-verdict.result c.lent_to_write.result c.no_state-verdict.ensures c.lent_to_write.ensures in
-    by_why (write_refuses _ _ _ _ _ _) _ judged _ c.in-Refused.is
+pub returns-in_err-no_state : goal.returns-in_err-no_state
+returns-in_err-no_state c =
+    let judged = write_judged _ _ _ _ _ c.no_state.result c.lent_to_write.result c.no_state.ensures c.lent_to_write.ensures in
+    by_why (write_refuses _ _ _ _ _ _) _ judged _ c.in_err-no_state.was
 
 pub byte_write-next-requires : goal.byte_write-next-requires
 byte_write-next-requires c =
-    let judged = write_judged _ _ _ _ _ c.no_state-verdict.result c.lent_to_write.result c.no_state-verdict.ensures c.lent_to_write.ensures in
-    let f = write_fits _ _ _ _ _ (fits_none _ _ judged c.in_default.is) in
+    let judged = write_judged _ _ _ _ _ c.no_state.result c.lent_to_write.result c.no_state.ensures c.lent_to_write.ensures in
+    let f = write_fits _ _ _ _ _ (fits_none _ _ judged c.in_ok-no_state.was) in
     (f.ram_fits, frame_lent _ f.store_fits, frame_lent _ f.image_fits)
 
 pub returns : goal.returns
 returns c =
-    let judged = write_judged _ _ _ _ _ c.no_state-verdict.result c.lent_to_write.result c.no_state-verdict.ensures c.lent_to_write.ensures in
-    ap wrote c.byte_write-next.ensures ∙ by_fits (write_refuses _ _ _ _ _ _) _ judged c.in_default.is
+    let judged = write_judged _ _ _ _ _ c.no_state.result c.lent_to_write.result c.no_state.ensures c.lent_to_write.ensures in
+    ap wrote c.byte_write-next.ensures ∙ by_fits (write_refuses _ _ _ _ _ _) _ judged c.in_ok-no_state.was

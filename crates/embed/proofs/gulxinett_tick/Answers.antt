@@ -12,12 +12,12 @@ returns-then-not-is_record c =
     ap (λ p. called p a.state.now a.ram.now a.store.now) c.refused.ensures
     ∙ sym (tick_unread _ _ _ _ (sym c.is_record.ensures ∙ c.if-not-is_record.true))
 
-pub returns-in-Refused : goal.returns-in-Refused
-returns-in-Refused c =
+pub returns-in_err-judge_tick : goal.returns-in_err-judge_tick
+returns-in_err-judge_tick c =
     let a = c.args in
     let is = sym c.is_record.ensures ∙ c.if-not-is_record.false in
     as_called
-    (tick_refused a.state.now a.ram.now a.store.now a.cycles is c.judge_tick-verdict.result c.judge_tick-verdict.ensures (λ k. search rules) _ c.in-Refused.is)
+    (tick_refused a.state.now a.ram.now a.store.now a.cycles is c.judge_tick.result c.judge_tick.ensures (λ k. search rules) _ c.in_err-judge_tick.was)
     c.refused-in-Refused.ensures
     (tick_done a.state.now a.ram.now a.store.now a.cycles is)
 
@@ -26,7 +26,7 @@ returns-then-not-runs c =
     let a = c.args in
     let is = sym c.is_record.ensures ∙ c.if-not-is_record.false in
     as_called
-    (tick_idle a.state.now a.ram.now a.store.now a.cycles is c.judge_tick-verdict.result c.judge_tick-verdict.ensures (λ k. search rules) c.in_default.is
+    (tick_idle a.state.now a.ram.now a.store.now a.cycles is c.judge_tick.result c.judge_tick.ensures (λ k. search rules) c.in_ok-judge_tick.was
     (sym c.runs.ensures ∙ c.if-not-runs.true))
     c.pack.ensures
     (tick_done a.state.now a.ram.now a.store.now a.cycles is)
@@ -34,7 +34,7 @@ returns-then-not-runs c =
 pub run-requires : goal.run-requires
 run-requires c =
     let a = c.args in
-    tick_runs a.state.now a.ram.now a.store.now a.cycles (sym c.is_record.ensures ∙ c.if-not-is_record.false) c.judge_tick-verdict.result c.judge_tick-verdict.ensures c.in_default.is
+    tick_runs a.state.now a.ram.now a.store.now a.cycles (sym c.is_record.ensures ∙ c.if-not-is_record.false) c.judge_tick.result c.judge_tick.ensures c.in_ok-judge_tick.was
     (sym c.runs.ensures ∙ c.if-not-runs.false)
 
 pub returns : goal.returns
@@ -42,7 +42,7 @@ returns c =
     let a = c.args in
     let is = sym c.is_record.ensures ∙ c.if-not-is_record.false in
     as_called
-    (c.run.ensures ∙ tick_ran a.state.now a.ram.now a.store.now a.cycles is c.judge_tick-verdict.result c.judge_tick-verdict.ensures c.in_default.is)
+    (c.run.ensures ∙ tick_ran a.state.now a.ram.now a.store.now a.cycles is c.judge_tick.result c.judge_tick.ensures c.in_ok-judge_tick.was)
     c.pack-2.ensures
     (tick_done a.state.now a.ram.now a.store.now a.cycles is)
 

@@ -6,21 +6,21 @@ use Rattle.controller.proofs.Refusals.{by_why, by_fits, fits_none}
 use Rattle.judging.proofs.Outcomes.{judge_refuses, judge_fits, drawn, judged_rows}
 use Rattle.judging.proofs.judge.Goals as goal
 
-pub returns-in-Refused : goal.returns-in-Refused
-returns-in-Refused c = by_why (judge_refuses _ _ _ _) _ c.judge_lent-verdict.ensures _ c.in-Refused.is
+pub returns-in_err-judge_lent : goal.returns-in_err-judge_lent
+returns-in_err-judge_lent c = by_why (judge_refuses _ _ _ _) _ c.judge_lent.ensures _ c.in_err-judge_lent.was
 
 pub slice_bounds-judge_rows-end : goal.slice_bounds-judge_rows-end
-slice_bounds-judge_rows-end c = (judge_fits _ _ (fits_none _ _ c.judge_lent-verdict.ensures c.in_default.is)).1
+slice_bounds-judge_rows-end c = (judge_fits _ _ (fits_none _ _ c.judge_lent.ensures c.in_ok-judge_lent.was)).1
 
 pub judge_rows-requires : goal.judge_rows-requires
 judge_rows-requires c =
-    let f = judge_fits c.args.frame.now c.args.rows.now (fits_none _ _ c.judge_lent-verdict.ensures c.in_default.is) in
+    let f = judge_fits c.args.frame.now c.args.rows.now (fits_none _ _ c.judge_lent.ensures c.in_ok-judge_lent.was) in
     simp (length-take, length-drop) (omega (arith, f.1))
 
 pub returns : goal.returns
 returns c =
     let j = c.judge_rows.ensures in
     let a = c.args in
-    let f = judge_fits a.frame.now a.rows.now (fits_none _ _ c.judge_lent-verdict.ensures c.in_default.is) in
+    let f = judge_fits a.frame.now a.rows.now (fits_none _ _ c.judge_lent.ensures c.in_ok-judge_lent.was) in
     judged_rows a.plate.now _ _ a.rows.now _ _ (drawn a.frame.now a.registers _ _ _ f.0 c.picture.ensures) j.rows_after j.value
-    ∙ by_fits (judge_refuses _ _ _ _) _ c.judge_lent-verdict.ensures c.in_default.is
+    ∙ by_fits (judge_refuses _ _ _ _) _ c.judge_lent.ensures c.in_ok-judge_lent.was

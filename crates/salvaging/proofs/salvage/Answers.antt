@@ -26,19 +26,19 @@ is-report : (script : List ℕ) (n : ℕ) → n ≤ length (accepted_at script 0
 unfolding report_of
 is-report script n l e = ap (λ n. marks n (lines_of script)) (sym (length-take-le n (accepted_at script 0) l) ∙ ap length e)
 
-pub returns-in-Refused : goal.returns-in-Refused
-returns-in-Refused c =
+pub returns-in_err-no_room : goal.returns-in_err-no_room
+returns-in_err-no_room c =
     let a = c.args in
     let s = a.script.now in
     let n = c.text_length-length.ensures ∙ ap length (is-cleaned s c.kept-n.result c.kept-n.ensures.1) in
-    by_why (salvage_short s a.text.now a.report.now c.if-script-gt-LONGEST.false) _ (room_judged s a.text.now a.report.now _ _ n c.count_lines-lines.ensures c.no_room-verdict.ensures c.no_room.ensures) _ c.in-Refused.is
+    by_why (salvage_short s a.text.now a.report.now c.if-script-gt-LONGEST.false) _ (room_judged s a.text.now a.report.now _ _ n c.count_lines-lines.ensures c.no_room.ensures c.no_room.ensures) _ c.in_err-no_room.was
 
 pub put_text-requires : goal.put_text-requires
 put_text-requires c =
     let a = c.args in
     let s = a.script.now in
     let e = is-cleaned s c.kept-n.result c.kept-n.ensures.1 in
-    let f = salvage_fits s a.text.now a.report.now (fits_none _ _ (room_judged s a.text.now a.report.now _ _ (c.text_length-length.ensures ∙ ap length e) c.count_lines-lines.ensures c.no_room-verdict.ensures c.no_room.ensures) c.in_default.is) in
+    let f = salvage_fits s a.text.now a.report.now (fits_none _ _ (room_judged s a.text.now a.report.now _ _ (c.text_length-length.ensures ∙ ap length e) c.count_lines-lines.ensures c.no_room.ensures c.no_room.ensures) c.in_ok-no_room.was) in
     (c.kept-n.ensures.0, c.if-script-gt-LONGEST.false, omega (arith, ap length e, f.0))
 
 pub put_report-requires : goal.put_report-requires
@@ -46,7 +46,7 @@ put_report-requires c =
     let a = c.args in
     let s = a.script.now in
     let e = is-cleaned s c.kept-n.result c.kept-n.ensures.1 in
-    let f = salvage_fits s a.text.now a.report.now (fits_none _ _ (room_judged s a.text.now a.report.now _ _ (c.text_length-length.ensures ∙ ap length e) c.count_lines-lines.ensures c.no_room-verdict.ensures c.no_room.ensures) c.in_default.is) in
+    let f = salvage_fits s a.text.now a.report.now (fits_none _ _ (room_judged s a.text.now a.report.now _ _ (c.text_length-length.ensures ∙ ap length e) c.count_lines-lines.ensures c.no_room.ensures c.no_room.ensures) c.in_ok-no_room.was) in
     (c.if-script-gt-LONGEST.false, f.1)
 
 pub returns : goal.returns
@@ -59,4 +59,4 @@ returns c =
     let m = c.count_lines-lines.ensures in
     let t = c.put_text.ensures ∙ ap (placed a.text.now 0) e in
     let r = c.put_report.ensures ∙ ap (placed a.report.now 0) (is-report s c.kept-n.result c.kept-n.ensures.0 c.kept-n.ensures.1) in
-    (λ i. salvaging 0 (n i) (m i) (t i) (r i)) ∙ by_fits (salvage_short s a.text.now a.report.now c.if-script-gt-LONGEST.false) _ (room_judged s a.text.now a.report.now _ _ n m c.no_room-verdict.ensures c.no_room.ensures) c.in_default.is
+    (λ i. salvaging 0 (n i) (m i) (t i) (r i)) ∙ by_fits (salvage_short s a.text.now a.report.now c.if-script-gt-LONGEST.false) _ (room_judged s a.text.now a.report.now _ _ n m c.no_room.ensures c.no_room.ensures) c.in_ok-no_room.was

@@ -10,19 +10,19 @@ use Rattle.shades.specs.Shades.{exported, shades_of}
 use Rattle.shades.proofs.Outputs.{shades_refuses, shades_fits}
 use Rattle.shades.proofs.shades.Goals as goal
 
-pub returns-in-Refused : goal.returns-in-Refused
-returns-in-Refused c = by_why (shades_refuses _ _) _ c.judge_shades-verdict.ensures _ c.in-Refused.is
+pub returns-in_err-judge_shades : goal.returns-in_err-judge_shades
+returns-in_err-judge_shades c = by_why (shades_refuses _ _) _ c.judge_shades.ensures _ c.in_err-judge_shades.was
 
 pub slice_bounds-put_shades-end : goal.slice_bounds-put_shades-end
-slice_bounds-put_shades-end c = (shades_fits _ _ (fits_none _ _ c.judge_shades-verdict.ensures c.in_default.is)).1
+slice_bounds-put_shades-end c = (shades_fits _ _ (fits_none _ _ c.judge_shades.ensures c.in_ok-judge_shades.was)).1
 
 pub put_shades-requires : goal.put_shades-requires
 put_shades-requires c =
-    let f = shades_fits c.args.ram.now c.args.out.now (fits_none _ _ c.judge_shades-verdict.ensures c.in_default.is) in
+    let f = shades_fits c.args.ram.now c.args.out.now (fits_none _ _ c.judge_shades.ensures c.in_ok-judge_shades.was) in
     ((ram_lent _ f.0).least, simp (length-take, length-drop) (omega (arith, f.1)))
 
 pub returns : goal.returns
 unfolding shades_of
 returns c =
     ap (λ (l : List ℕ). exported 0 14336 (l ++ drop 14336 c.args.out.now)) c.put_shades.ensures
-    ∙ by_fits (shades_refuses _ _) _ c.judge_shades-verdict.ensures c.in_default.is
+    ∙ by_fits (shades_refuses _ _) _ c.judge_shades.ensures c.in_ok-judge_shades.was

@@ -11,12 +11,12 @@ use Rattle.photos.specs.Photo.{value_of, image_of, imported}
 use Rattle.photos.proofs.Imports.{import_refuses, import_fits, photo_long, take_drop}
 use Rattle.photos.proofs.photo.import.Goals as goal
 
-pub returns-in-Refused : goal.returns-in-Refused
-returns-in-Refused c = by_why (import_refuses _ _) _ c.judge_import-verdict.ensures _ c.in-Refused.is
+pub returns-in_err-judge_import : goal.returns-in_err-judge_import
+returns-in_err-judge_import c = by_why (import_refuses _ _) _ c.judge_import.ensures _ c.in_err-judge_import.was
 
 pub put_image-requires : goal.put_image-requires
 put_image-requires c =
-    let f = import_fits _ _ (fits_none _ _ c.judge_import-verdict.ensures c.in_default.is) in
+    let f = import_fits _ _ (fits_none _ _ c.judge_import.ensures c.in_ok-judge_import.was) in
     (simp (length-take, length-drop) (omega (arith, photo_long _ f.1)), frame_lent _ f.0)
 
 pub returns : goal.returns
@@ -24,7 +24,7 @@ unfolding image_of
 returns c =
     let file = c.args.file.now in
     ap (imported 0) (c.put_image.ensures ∙ ap (λ (l : List ℕ). listed (value_of l) 16384) (take_drop file (length file - 49152)))
-    ∙ by_fits (import_refuses _ _) _ c.judge_import-verdict.ensures c.in_default.is
+    ∙ by_fits (import_refuses _ _) _ c.judge_import.ensures c.in_ok-judge_import.was
 
 pub overflow_sub-start : goal.overflow_sub-start
-overflow_sub-start c = photo_long _ (import_fits _ _ (fits_none _ _ c.judge_import-verdict.ensures c.in_default.is)).1
+overflow_sub-start c = photo_long _ (import_fits _ _ (fits_none _ _ c.judge_import.ensures c.in_ok-judge_import.was)).1

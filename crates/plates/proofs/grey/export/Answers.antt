@@ -6,15 +6,15 @@ use Rattle.shades.specs.Shades.{exported}
 use Rattle.plates.proofs.Exports.{export_refuses, export_fits}
 use Rattle.plates.proofs.grey.export.Goals as goal
 
-pub returns-in-Refused : goal.returns-in-Refused
-returns-in-Refused c = by_why (export_refuses _ _) _ c.judge_export-verdict.ensures _ c.in-Refused.is
+pub returns-in_err-judge_export : goal.returns-in_err-judge_export
+returns-in_err-judge_export c = by_why (export_refuses _ _) _ c.judge_export.ensures _ c.in_err-judge_export.was
 
 pub put_file-requires : goal.put_file-requires
 put_file-requires c =
-    let f = export_fits _ _ (fits_none _ _ c.judge_export-verdict.ensures c.in_default.is) in
+    let f = export_fits _ _ (fits_none _ _ c.judge_export.ensures c.in_ok-judge_export.was) in
     ((ram_lent _ f.0).least, f.1)
 
 pub returns : goal.returns
 returns c =
     ap (exported 0 14351) c.put_file.ensures
-    ∙ by_fits (export_refuses _ _) _ c.judge_export-verdict.ensures c.in_default.is
+    ∙ by_fits (export_refuses _ _) _ c.judge_export.ensures c.in_ok-judge_export.was

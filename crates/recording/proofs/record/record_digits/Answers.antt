@@ -10,17 +10,17 @@ use Rattle.recording.specs.Record.{recording}
 use Rattle.recording.proofs.Written.{line_refuses, line_fits, numbers, ended_printed, length_digits, digits_judged}
 use Rattle.recording.proofs.record.record_digits.Goals as goal
 
-pub returns-in-Refused : goal.returns-in-Refused
-returns-in-Refused c =
+pub returns-in_err-no_room : goal.returns-in_err-no_room
+returns-in_err-no_room c =
     let m = c in
     let a = m.args in
-    by_why (line_refuses false (numbers a.kind a.digits a.value) a.out.now) _ (digits_judged a.kind a.digits a.value a.out.now m.no_room-verdict.ensures) _ c.in-Refused.is
+    by_why (line_refuses false (numbers a.kind a.digits a.value) a.out.now) _ (digits_judged a.kind a.digits a.value a.out.now m.no_room.ensures) _ c.in_err-no_room.was
 
 pub put_line-requires : goal.put_line-requires
 put_line-requires c =
     let e = c in
     let a = e.args in
-    let f = line_fits false (numbers a.kind a.digits a.value) a.out.now (fits_none _ _ (digits_judged a.kind a.digits a.value a.out.now e.no_room-verdict.ensures) e.in_default.is) in
+    let f = line_fits false (numbers a.kind a.digits a.value) a.out.now (fits_none _ _ (digits_judged a.kind a.digits a.value a.out.now e.no_room.ensures) e.in_ok-no_room.was) in
     omega (arith, f.room, length_digits a.kind a.digits a.value)
 
 pub returns : goal.returns
@@ -31,4 +31,4 @@ returns c =
     let n = p.1 ∙ zero-add (3 + a.digits) ∙ sym (length_digits a.kind a.digits a.value) in
     let o = p.0 ∙ ap (placed a.out.now 0) (sym (ended_printed a.kind a.digits a.value)) in
     (λ i. recording 0 (n i) (o i))
-    ∙ by_fits (line_refuses false (numbers a.kind a.digits a.value) a.out.now) _ (digits_judged a.kind a.digits a.value a.out.now e.no_room-verdict.ensures) e.in_default.is
+    ∙ by_fits (line_refuses false (numbers a.kind a.digits a.value) a.out.now) _ (digits_judged a.kind a.digits a.value a.out.now e.no_room.ensures) e.in_ok-no_room.was

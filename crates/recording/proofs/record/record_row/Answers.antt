@@ -6,8 +6,9 @@ use Prim.Native.Nat.{ℕ, ◌≤◌}
 use native.Mathlib.Omega.{arith}
 use lib.ListN.{length}
 use Rattle.laws.proofs.Bools.{not_fails}
-use Rattle.controller.specs.declared.Verdict.{Verdict}
-use Rattle.controller.specs.declared.Verdict.TheVariants as verdicts
+use Rattle.std.specs.declared.result.Result.{Result}
+use Rattle.controller.specs.declared.Refusal.{Refusal}
+use Rattle.std.specs.Prelude.{⊤, Ok}
 use Rattle.controller.specs.Outcome.{verdict_number}
 use Rattle.controller.specs.Table.{Row, lowest}
 use Rattle.controller.proofs.Refusals.{by_why, by_fits, fits_none}
@@ -20,27 +21,27 @@ abbrev rows : ℕ → List ℕ → List ℕ → List Row
 rows row bytes out = record_rows (not (row_allowed row (length bytes))) (row_line row bytes) out
 
 -- a row that fits has 128 bytes, and the buffer room for its line
-fits : (row : ℕ) (bytes out : List ℕ) (v : Verdict) → verdict_number v ≡ lowest (rows row bytes out) → v ≡ verdicts.Fits → (length bytes ≡ 128) × (261 ≤ length out)
+fits : (row : ℕ) (bytes out : List ℕ) (v : Result ⊤ Refusal) → verdict_number v ≡ lowest (rows row bytes out) → v ≡ (Ok _) → (length bytes ≡ 128) × (261 ≤ length out)
 fits row bytes out v e t =
     let f = line_fits _ (row_line row bytes) out (fits_none (rows row bytes out) _ e t) in
     let l = row_long row bytes (not_fails _ f.said) in
     (l, omega (arith, f.room, length_row_line row bytes l))
 
-pub returns-in-Refused : goal.returns-in-Refused
+pub returns-in_err-refused_if : goal.returns-in_err-refused_if
 unfolding record_means line_of cant_say
-returns-in-Refused c =
+returns-in_err-refused_if c =
     let a = c.args in
-    by_why (line_refuses _ _ _) _ (row_judged_lem a.row a.bytes.now a.out.now _ c.row_allowed.ensures c.no_room-room.ensures c.refused_if-verdict.ensures) _ c.in-Refused.is
+    by_why (line_refuses _ _ _) _ (row_judged_lem a.row a.bytes.now a.out.now _ c.row_allowed.ensures c.no_room-room.ensures c.refused_if.ensures) _ c.in_err-refused_if.was
 
 pub put_row-requires : goal.put_row-requires
 put_row-requires c =
     let a = c.args in
-    fits a.row a.bytes.now a.out.now _ (row_judged_lem a.row a.bytes.now a.out.now _ c.row_allowed.ensures c.no_room-room.ensures c.refused_if-verdict.ensures) c.in_default.is
+    fits a.row a.bytes.now a.out.now _ (row_judged_lem a.row a.bytes.now a.out.now _ c.row_allowed.ensures c.no_room-room.ensures c.refused_if.ensures) c.in_ok-refused_if.was
 
 pub returns : goal.returns
 unfolding record_means line_of cant_say
 returns c =
     let a = c.args in
-    let j = row_judged_lem a.row a.bytes.now a.out.now _ c.row_allowed.ensures c.no_room-room.ensures c.refused_if-verdict.ensures in
-    let n = sym (length_row_line a.row a.bytes.now (fits a.row a.bytes.now a.out.now _ j c.in_default.is).0) in
-    (λ i. recording 0 (n i) (c.put_row.ensures i)) ∙ by_fits (line_refuses _ _ _) _ j c.in_default.is
+    let j = row_judged_lem a.row a.bytes.now a.out.now _ c.row_allowed.ensures c.no_room-room.ensures c.refused_if.ensures in
+    let n = sym (length_row_line a.row a.bytes.now (fits a.row a.bytes.now a.out.now _ j c.in_ok-refused_if.was).0) in
+    (λ i. recording 0 (n i) (c.put_row.ensures i)) ∙ by_fits (line_refuses _ _ _) _ j c.in_ok-refused_if.was
