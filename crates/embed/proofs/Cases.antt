@@ -96,8 +96,8 @@ module _ (s : List ℕ) (light level plain exposure : ℕ) where
     choose_is y f =
         ap (λ z. outcome (write_number z) 0 r.state [] []) (sym f) ∙ means ∙ ap (λ z. choose_means d light level (plain_in plain) z) named ∙ ap choice e
 
-    pub choose_chose : r.answer ≡ (Ok _) → (p : ℕ) (t : List ℕ) → p ≡ packed 0 0 → t ≡ encoded r.state → called p t [] [] ≡ choose_bytes s light level plain exposure
-    choose_chose f p t q g = (λ i. called (q i) (g i) [] []) ∙ ap as_bytes (choose_is (Ok _) f) ∙ sym (choose_done h)
+    pub choose_chose : {y : ⊤} → r.answer ≡ Ok y → (p : ℕ) (t : List ℕ) → p ≡ packed 0 0 → t ≡ encoded r.state → called p t [] [] ≡ choose_bytes s light level plain exposure
+    choose_chose {y} f p t q g = (λ i. called (q i) (g i) [] []) ∙ ap as_bytes (choose_is (Ok y) f) ∙ sym (choose_done h)
 
     pub choose_refusal : Bytes s → (why : Refusal) → r.answer ≡ Err why → (p : ℕ) → p ≡ packed (number_of why) 0 → called p s [] [] ≡ choose_bytes s light level plain exposure
     choose_refusal bytes why f p q =
@@ -116,8 +116,8 @@ module _ (s : List ℕ) where
   unfolding inspect_bytes
   inspect_done h = simp h
 
-  module _ (h : is_record s ≡ true) (d : Controller) (r : Element) (e : d ≡ decoded s) (means : inspection r ≡ inspect_means d) where
+  module _ (h : is_record s ≡ true) (d : Controller) (r : Result (Option Element) Refusal) (e : d ≡ decoded s) (means : inspection r ≡ inspect_means d) where
     -- what the code found, packed, is the meaning's answer
-    pub inspect_found : (x : Element) → r ≡ x → (p : ℕ) → p ≡ inspected (inspection x) → p ≡ inspect_bytes s
+    pub inspect_found : (x : Result (Option Element) Refusal) → r ≡ x → (p : ℕ) → p ≡ inspected (inspection x) → p ≡ inspect_bytes s
     inspect_found x f p q =
         q ∙ ap (λ y. inspected (inspection y)) (sym f) ∙ ap inspected means ∙ ap (λ c. inspected (inspect_means c)) e ∙ sym (inspect_done h)

@@ -3,7 +3,7 @@ ghost use Rattle.std.specs.Prelude.{◌≡◌};
 ghost use Rattle.answers.specs.Called.{called, filled};
 ghost use Rattle.embed.specs.Saves.{save_bytes, restore_bytes};
 
-use answers::{done_answer, output_answer};
+use answers::answer;
 use save::reading::restore;
 use save::writing::save;
 
@@ -12,7 +12,7 @@ use save::writing::save;
 pub extern "C" fn gulxinett_save(state: &[u8], ram: &[u8], store: &[u8], out: &mut [u8]) -> u64
     ensures { filled result out.new ≡ save_bytes state.now ram.now store.now out.old }
 {
-    output_answer(save(state, ram, store, out))
+    answer(save(state, ram, store, out))
 }
 
 // Reads such a file into state, RAM and frame store.
@@ -26,5 +26,5 @@ pub extern "C" fn gulxinett_restore(
     ensures { called result state.new ram.new store.new
         ≡ restore_bytes file.now state.old ram.old store.old }
 {
-    done_answer(restore(file, state, ram, store))
+    answer(restore(file, state, ram, store))
 }

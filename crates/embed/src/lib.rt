@@ -9,7 +9,7 @@ ghost use Rattle.std.specs.Prelude.{◌≡◌, []};
 ghost use Rattle.answers.specs.Called.{called};
 ghost use Rattle.embed.specs.Exports.{reset_bytes, read_bytes, write_bytes, tick_bytes, inspect_bytes, exposure_in, choose_bytes};
 
-use answers::{done_answer, pack, read_answer, refused};
+use answers::{answer, pack, refused};
 use controller::{Controller, Element, Refusal};
 use desk::choice::choose;
 use layout::{STATE_LEN, decode, encode, is_record};
@@ -34,7 +34,7 @@ pub extern "C" fn gulxinett_read(state: &[u8], rom: &[u8], ram: &[u8], address: 
     if !is_record(state) {
         return refused(Refusal::State);
     }
-    read_answer(calls::read(state, rom, ram, address))
+    answer(calls::read(state, rom, ram, address))
 }
 
 // Writes a byte to an address; a start puts the light of the image into the frame store.
@@ -53,7 +53,7 @@ pub extern "C" fn gulxinett_write(
     if !is_record(state) {
         return refused(Refusal::State);
     }
-    done_answer(calls::write(state, ram, store, image, address, value))
+    answer(calls::write(state, ram, store, image, address, value))
 }
 
 // Lets cycles pass; it answers how many of them fell while a capture was running. The steps of `calls::tick` stand here, so that the code of a running

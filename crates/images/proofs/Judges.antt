@@ -10,18 +10,20 @@ use Rattle.std.specs.Prelude.{Ok, Err}
 use Rattle.judging.specs.Judging.{afresh_of, answered, judged_by, judge_rows, judge_means}
 use Rattle.judging.proofs.Outcomes.{judge_refuses}
 use Rattle.judging.proofs.Whose.{equal_most}
+use Rattle.shades.specs.Shades.{output_number, output_value}
+use Rattle.answers.specs.Packed.{packed}
 use Rattle.answers.specs.Called.{filled}
 use Rattle.images.specs.Judges.{as_judged, judge_bytes}
 use Rattle.answers.proofs.Kept.{kept}
 use Rattle.answers.proofs.Only.{Says, packed_says}
 
 module _ (plate frame regs rows : List ℕ) where
-  pub judge_answered : (r : Result ℕ Refusal) (rows' : List ℕ) → answered r rows' ≡ judge_means plate frame regs rows → (x : Result ℕ Refusal) → r ≡ x
-      → (p : ℕ) → p ≡ (as_judged (answered x rows')).answer → filled p rows' ≡ judge_bytes plate frame regs rows
+  pub judge_answered : (r : Result ℕ Refusal) (rows' : List ℕ) → answered r rows' ≡ judge_means plate frame regs rows
+      → (p : ℕ) → p ≡ packed (output_number r) (output_value r) → filled p rows' ≡ judge_bytes plate frame regs rows
   unfolding judge_bytes
-  judge_answered r rows' e x f p q = (λ i. filled (q i) (same x i)) ∙ ap (λ (y : Result ℕ Refusal). as_judged (answered y rows')) (sym f) ∙ ap as_judged e
+  judge_answered r rows' e p q = (λ i. filled (q i) rows') ∙ same r ∙ ap as_judged e
     where
-      same : (x : Result ℕ Refusal) → rows' ≡ (answered x rows').rows
+      same : (x : Result ℕ Refusal) → filled (packed (output_number x) (output_value x)) rows' ≡ as_judged (answered x rows')
       same (Ok n) = refl
       same (Err why) = refl
 

@@ -3,7 +3,7 @@ ghost use Rattle.std.specs.Prelude.{◌≡◌};
 ghost use Rattle.answers.specs.Called.{filled};
 ghost use Rattle.images.specs.Judges.{judge_bytes};
 
-use answers::output_answer;
+use answers::answer;
 use judging::judge;
 
 // Says of each row of a plate whether it is that of the picture afresh of a frame under 54 registers taken. The answer's value is how many are.
@@ -16,5 +16,5 @@ pub extern "C" fn gulxinett_judge(
 ) -> u64
     ensures { filled result rows.new ≡ judge_bytes plate.now frame.now registers.now rows.old }
 {
-    output_answer(judge(plate, frame, *registers, rows))
+    answer(judge(plate, frame, *registers, rows))
 }

@@ -7,7 +7,7 @@ ghost use Rattle.std.specs.Prelude.{◌≡◌, []};
 ghost use Rattle.answers.specs.Called.{called, filled};
 ghost use Rattle.images.specs.Images.{picture_bytes, export_bytes, shades_bytes, place_bytes, readings_bytes, import_bytes};
 
-use answers::{done_answer, output_answer, refused};
+use answers::{answer, refused};
 use controller::{Controller, Refusal};
 use layout::{decode, is_record};
 use photos::photo::import;
@@ -25,7 +25,7 @@ pub extern "C" fn gulxinett_picture(
 ) -> u64
     ensures { filled result picture.new ≡ picture_bytes frame.now registers.now picture.old }
 {
-    done_answer(Controller::picture(frame, *registers, picture))
+    answer(Controller::picture(frame, *registers, picture))
 }
 
 // Writes the picture area as a grey image, a Netpbm file of kind P5.
@@ -33,7 +33,7 @@ pub extern "C" fn gulxinett_picture(
 pub extern "C" fn gulxinett_export(ram: &[u8], out: &mut [u8]) -> u64
     ensures { filled result out.new ≡ export_bytes ram.now out.old }
 {
-    output_answer(export(ram, out))
+    answer(export(ram, out))
 }
 
 // Writes the picture area as shades, one a byte.
@@ -41,7 +41,7 @@ pub extern "C" fn gulxinett_export(ram: &[u8], out: &mut [u8]) -> u64
 pub extern "C" fn gulxinett_shades(ram: &[u8], out: &mut [u8]) -> u64
     ensures { filled result out.new ≡ shades_bytes ram.now out.old }
 {
-    output_answer(shades(ram, out))
+    answer(shades(ram, out))
 }
 
 // Places a grey image, a file as it is exported, in the picture area.
@@ -52,7 +52,7 @@ pub extern "C" fn gulxinett_place(state: &[u8], ram: &mut [u8], file: &[u8]) -> 
     if !is_record(state) {
         return refused(Refusal::State);
     }
-    done_answer(place(decode(state), ram, file))
+    answer(place(decode(state), ram, file))
 }
 
 // Writes the values of the held capture, before the matrix made shades of them, as a grey image.
@@ -63,7 +63,7 @@ pub extern "C" fn gulxinett_readings(state: &[u8], store: &[u8], out: &mut [u8])
     if !is_record(state) {
         return refused(Refusal::State);
     }
-    output_answer(readings(decode(state), store, out))
+    answer(readings(decode(state), store, out))
 }
 
 // Reads a photograph, a Netpbm file of kind P6, into an image.
@@ -71,5 +71,5 @@ pub extern "C" fn gulxinett_readings(state: &[u8], store: &[u8], out: &mut [u8])
 pub extern "C" fn gulxinett_import_photo(file: &[u8], image: &mut [u8]) -> u64
     ensures { filled result image.new ≡ import_bytes file.now image.old }
 {
-    done_answer(import(file, image))
+    answer(import(file, image))
 }

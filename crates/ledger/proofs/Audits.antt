@@ -159,7 +159,7 @@ audit_small s' ram' store' image' book' line' out' u rom w b line out taken piec
     omega (arith, ap (λ (x : Standing). x.used) e, piece_used rom w b line out taken, ap length t, lent_most piece)
 
 module _ (s rom ram store image book line out s' ram' store' image' book' line' out' : List ℕ) (bytes : Bytes s') (r : is_record s' ≡ true)
-    (v : Result ⊤ Refusal) (j : verdict_number v ≡ lowest (audit_rows s book line out)) (f : v ≡ (Ok _)) where
+    (v : Result ⊤ Refusal) (j : verdict_number v ≡ lowest (audit_rows s book line out)) {x : ⊤} (f : v ≡ Ok x) where
   -- a piece that was read, answered
   pub audit_done : (taken piece : List ℕ) (u p : ℕ) → standing (world (decoded s') ram' store' image') book' line' out' u ≡ piece_audited rom (world (decoded s) ram store image) book line out taken
       → taken ≡ lent piece → p ≡ packed 0 u → auditing p s' ram' store' image' book' line' out' ≡ audit_bytes s rom ram store image book line piece out

@@ -50,6 +50,7 @@ fn same_ram(first: &[u8], ram: &[u8]) -> bool
 }
 
 // What an audit is lent, judged: 1, then 7.
+#[tactic(auto, using(controller::proofs::Judging::rows), unfolding(crate::specs::Audits::audit_rows))]
 fn judge_audit(state: &[u8], book: &[u64], line: &[u8], out: &[u8]) -> Result<(), Refusal>
     ensures { verdict_number result ≡ lowest (audit_rows state.now book.now line.now out.now) }
 {
@@ -58,6 +59,7 @@ fn judge_audit(state: &[u8], book: &[u64], line: &[u8], out: &[u8]) -> Result<()
 }
 
 // What a search for changes is lent, judged: 3, then 7.
+#[tactic(auto, using(controller::proofs::Judging::rows), unfolding(crate::specs::Audits::changed_rows))]
 fn judge_changed(book: &[u64], first: &[u8], ram: &[u8], out: &[u8]) -> Result<(), Refusal>
     ensures { verdict_number result ≡ lowest (changed_rows book.now first.now ram.now out.now) }
 {
@@ -66,6 +68,7 @@ fn judge_changed(book: &[u64], first: &[u8], ram: &[u8], out: &[u8]) -> Result<(
 }
 
 // What a summary is lent, judged: 1, then 7.
+#[tactic(auto, using(controller::proofs::Judging::rows), unfolding(crate::specs::Audits::summary_rows))]
 fn judge_summary(book: &[u64], state: &[u8], out: &[u8]) -> Result<(), Refusal>
     ensures { verdict_number result ≡ lowest (summary_rows book.now state.now out.now) }
 {

@@ -10,7 +10,7 @@ use Rattle.controller.proofs.Refusals.{judged_ind}
 use Rattle.lines.specs.declared.line.Frame.{Frame}
 use Rattle.std.specs.declared.result.Result.{Result}
 use Rattle.controller.specs.declared.Refusal.{Refusal}
-use Rattle.salvaging.specs.declared.Cleaned.{Cleaned}
+use Rattle.salvaging.specs.declared.Salvaged.{Salvaged}
 use Rattle.std.specs.Prelude.{Ok, Err}
 use Rattle.recording.specs.Record.{Recording, recorded, record_means}
 use Rattle.recording.proofs.Recorded.{record_most}
@@ -58,16 +58,16 @@ salvage_most script text report =
     (λ h. rw (salvage_long script text report h) (record { lines = omega arith; length = omega arith }))
     (λ h. short_most script text report h)
 
-module _ (script text report : List ℕ) (r : Result Cleaned Refusal) (text' report' : List ℕ) (means : salvaged_as r text' report' ≡ salvage_means script text report) where
-  salvage_is : (x : Result Cleaned Refusal) → r ≡ x → salvaged_as x text' report' ≡ salvage_means script text report
+module _ (script text report : List ℕ) (r : Result Salvaged Refusal) (text' report' : List ℕ) (means : salvaged_as r text' report' ≡ salvage_means script text report) where
+  salvage_is : (x : Result Salvaged Refusal) → r ≡ x → salvaged_as x text' report' ≡ salvage_means script text report
   salvage_is x f = ap (λ y. salvaged_as y text' report') (sym f) ∙ means
 
-  pub cleaned_most : (n m : ℕ) → r ≡ Ok n m → (m ≤ 32768) × (n ≤ 32769)
-  cleaned_most n m f =
-      let o : Most (salvaged_as (Ok n m) text' report') = rw (salvage_is (Ok n m) f) (salvage_most script text report) in
+  pub cleaned_most : (s : Salvaged) → r ≡ Ok s → (s.lines ≤ 32768) × (s.length ≤ 32769)
+  cleaned_most s f =
+      let o : Most (salvaged_as (Ok s) text' report') = rw (salvage_is (Ok s) f) (salvage_most script text report) in
       (o.lines, o.length)
 
-  pub salvage_reported : (x : Result Cleaned Refusal) → r ≡ x → (p : ℕ) → p ≡ (as_reported (salvaged_as x text' report')).answer → reported p text' report' ≡ salvage_bytes script text report
+  pub salvage_reported : (x : Result Salvaged Refusal) → r ≡ x → (p : ℕ) → p ≡ (as_reported (salvaged_as x text' report')).answer → reported p text' report' ≡ salvage_bytes script text report
   unfolding salvage_bytes
-  salvage_reported (Ok n m) f p q = (λ i. reported (q i) text' report') ∙ ap as_reported (salvage_is (Ok n m) f)
+  salvage_reported (Ok s) f p q = (λ i. reported (q i) text' report') ∙ ap as_reported (salvage_is (Ok s) f)
   salvage_reported (Err why) f p q = (λ i. reported (q i) text' report') ∙ ap as_reported (salvage_is (Err why) f)

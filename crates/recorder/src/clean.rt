@@ -3,7 +3,7 @@ ghost use Rattle.std.specs.Prelude.{◌≡◌, ◌+◌, ◌*◌, ◌≤◌};
 ghost use Rattle.recorder.specs.Recorder.{reported, salvage_bytes};
 
 use answers::{pack, refused};
-use salvaging::{Cleaned, salvage};
+use salvaging::{Salvaged, salvage};
 
 // The number of lines and the text's length as one value.
 fn counts(lines: usize, length: usize) -> u32
@@ -19,7 +19,7 @@ pub extern "C" fn gulxinett_salvage(script: &[u8], text: &mut [u8], report: &mut
     ensures { reported result text.new report.new ≡ salvage_bytes script.now text.old report.old }
 {
     match salvage(script, text, report) {
-        Ok(Cleaned { length, lines }) => pack(0, counts(lines, length)),
+        Ok(Salvaged { length, lines }) => pack(0, counts(lines, length)),
         Err(why) => refused(why),
     }
 }

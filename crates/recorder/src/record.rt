@@ -3,7 +3,7 @@ ghost use Rattle.std.specs.Prelude.{◌≡◌, []};
 ghost use Rattle.answers.specs.Called.{filled};
 ghost use Rattle.recorder.specs.Recorder.{record_bytes};
 
-use answers::line_answer;
+use answers::answer;
 use lines::line::Frame;
 use recording::record::{record_read, record_reset, record_row, record_tick, record_write};
 
@@ -12,7 +12,7 @@ use recording::record::{record_read, record_reset, record_row, record_tick, reco
 pub extern "C" fn gulxinett_record_reset(out: &mut [u8]) -> u64
     ensures { filled result out.new ≡ record_bytes Frame.Reset [] out.old }
 {
-    line_answer(record_reset(out))
+    answer(record_reset(out))
 }
 
 // `01` four-digit address.
@@ -20,7 +20,7 @@ pub extern "C" fn gulxinett_record_reset(out: &mut [u8]) -> u64
 pub extern "C" fn gulxinett_record_read(address: u16, out: &mut [u8]) -> u64
     ensures { filled result out.new ≡ record_bytes (Frame.Read address) [] out.old }
 {
-    line_answer(record_read(address, out))
+    answer(record_read(address, out))
 }
 
 // `02` four-digit address, byte.
@@ -28,7 +28,7 @@ pub extern "C" fn gulxinett_record_read(address: u16, out: &mut [u8]) -> u64
 pub extern "C" fn gulxinett_record_write(address: u16, value: u8, out: &mut [u8]) -> u64
     ensures { filled result out.new ≡ record_bytes (Frame.Write address value) [] out.old }
 {
-    line_answer(record_write(address, value, out))
+    answer(record_write(address, value, out))
 }
 
 // `03` eight-digit tick.
@@ -36,7 +36,7 @@ pub extern "C" fn gulxinett_record_write(address: u16, value: u8, out: &mut [u8]
 pub extern "C" fn gulxinett_record_tick(cycles: u32, out: &mut [u8]) -> u64
     ensures { filled result out.new ≡ record_bytes (Frame.Tick cycles) [] out.old }
 {
-    line_answer(record_tick(cycles, out))
+    answer(record_tick(cycles, out))
 }
 
 // `04` row and 128 bytes of the image.
@@ -44,5 +44,5 @@ pub extern "C" fn gulxinett_record_tick(cycles: u32, out: &mut [u8]) -> u64
 pub extern "C" fn gulxinett_record_row(row: u8, bytes: &[u8], out: &mut [u8]) -> u64
     ensures { filled result out.new ≡ record_bytes (Frame.Row row) bytes.now out.old }
 {
-    line_answer(record_row(row, bytes, out))
+    answer(record_row(row, bytes, out))
 }

@@ -12,6 +12,7 @@ use session::answer::ANSWER;
 use session::session::line_done;
 
 // What a step was lent, judged: 1, then 7.
+#[tactic(auto, using(controller::proofs::Judging::rows), unfolding(crate::specs::Steps::step_rows))]
 fn judge_step(state: &[u8], out: &[u8]) -> Result<(), Refusal>
     ensures { verdict_number result ≡ lowest (step_rows state.now out.now) }
 {

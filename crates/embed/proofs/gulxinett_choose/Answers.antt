@@ -16,13 +16,13 @@ pub encode-requires : goal.encode-requires
 encode-requires c =
     (record_parts _ (sym c.is_record.ensures ∙ c.if-not-is_record.false)).long
 
-pub returns-in-Done : goal.returns-in-Done
-returns-in-Done c =
-    choose_chose _ _ _ _ _ (sym c.is_record.ensures ∙ c.if-not-is_record.false) _ _ _ c.decode.ensures c.exposure_in.ensures c.choose-done.ensures c.in-Done.is _ _ c.pack.ensures c.encode.ensures
+pub returns-in-Ok : goal.returns-in-Ok
+returns-in-Ok c =
+    choose_chose _ _ _ _ _ (sym c.is_record.ensures ∙ c.if-not-is_record.false) _ _ _ c.decode.ensures c.exposure_in.ensures c.choose-done.ensures c.in-Ok.is _ _ c.pack.ensures c.encode.ensures
 
-pub returns-in-Refused : goal.returns-in-Refused
-returns-in-Refused c =
-    choose_refusal _ _ _ _ _ (sym c.is_record.ensures ∙ c.if-not-is_record.false) _ _ _ c.decode.ensures c.exposure_in.ensures c.choose-done.ensures (λ k. search rules) _ c.in-Refused.is _ c.refused-in-Refused.ensures
+pub returns-in-Err : goal.returns-in-Err
+returns-in-Err c =
+    choose_refusal _ _ _ _ _ (sym c.is_record.ensures ∙ c.if-not-is_record.false) _ _ _ c.decode.ensures c.exposure_in.ensures c.choose-done.ensures (λ k. search rules) _ c.in-Err.is _ c.refused-in-Err.ensures
 
 pub decode-requires : goal.decode-requires
 decode-requires c = sym c.is_record.ensures ∙ c.if-not-is_record.false

@@ -13,7 +13,7 @@ returns-then-not-is_record c =
 
 pub returns : goal.returns
 returns c =
-    as_called c.read.ensures c.read_answer.ensures (read_done _ _ _ _ (sym c.is_record.ensures ∙ c.if-not-is_record.false))
+    as_called c.read.ensures c.answer.ensures (read_done _ _ _ _ (sym c.is_record.ensures ∙ c.if-not-is_record.false))
 
 pub read-requires : goal.read-requires
 read-requires c = sym c.is_record.ensures ∙ c.if-not-is_record.false

@@ -1,6 +1,7 @@
 -- `embed::gulxinett_tick` meets its contract: bytes that are no record, or what a tick that is judged answers and leaves. Assumes nothing.
 use mathlib.Core.Path.{sym, ap, ◌∙◌}
 use borrow.Author.Rules.{rules}
+use Rattle.std.proofs.lemmas.Result.{MatchResult-at_ok}
 use Rattle.answers.specs.Called.{called}
 use Rattle.calls.proofs.Ticking.{tick_refused, tick_idle, tick_runs, tick_ran}
 use Rattle.embed.proofs.Cases.{as_called, tick_unread, tick_done}
@@ -12,13 +13,13 @@ returns-then-not-is_record c =
     ap (λ p. called p a.state.now a.ram.now a.store.now) c.refused.ensures
     ∙ sym (tick_unread _ _ _ _ (sym c.is_record.ensures ∙ c.if-not-is_record.true))
 
-pub returns-in_err-judge_tick : goal.returns-in_err-judge_tick
-returns-in_err-judge_tick c =
+pub returns-in-Err : goal.returns-in-Err
+returns-in-Err c =
     let a = c.args in
     let is = sym c.is_record.ensures ∙ c.if-not-is_record.false in
     as_called
-    (tick_refused a.state.now a.ram.now a.store.now a.cycles is c.judge_tick.result c.judge_tick.ensures (λ k. search rules) _ c.in_err-judge_tick.was)
-    c.refused-in-Refused.ensures
+    (tick_refused a.state.now a.ram.now a.store.now a.cycles is c.judge_tick.result c.judge_tick.ensures (λ k. search rules) _ c.in-Err.is)
+    c.refused-in-Err.ensures
     (tick_done a.state.now a.ram.now a.store.now a.cycles is)
 
 pub returns-then-not-runs : goal.returns-then-not-runs
@@ -26,7 +27,7 @@ returns-then-not-runs c =
     let a = c.args in
     let is = sym c.is_record.ensures ∙ c.if-not-is_record.false in
     as_called
-    (tick_idle a.state.now a.ram.now a.store.now a.cycles is c.judge_tick.result c.judge_tick.ensures (λ k. search rules) c.in_ok-judge_tick.was
+    (tick_idle a.state.now a.ram.now a.store.now a.cycles is c.judge_tick.result c.judge_tick.ensures (λ k. search rules) c.in_default.is
     (sym c.runs.ensures ∙ c.if-not-runs.true))
     c.pack.ensures
     (tick_done a.state.now a.ram.now a.store.now a.cycles is)
@@ -34,20 +35,21 @@ returns-then-not-runs c =
 pub run-requires : goal.run-requires
 run-requires c =
     let a = c.args in
-    tick_runs a.state.now a.ram.now a.store.now a.cycles (sym c.is_record.ensures ∙ c.if-not-is_record.false) c.judge_tick.result c.judge_tick.ensures c.in_ok-judge_tick.was
+    tick_runs a.state.now a.ram.now a.store.now a.cycles (sym c.is_record.ensures ∙ c.if-not-is_record.false) c.judge_tick.result c.judge_tick.ensures c.in_default.is
     (sym c.runs.ensures ∙ c.if-not-runs.false)
 
 pub returns : goal.returns
 returns c =
     let a = c.args in
     let is = sym c.is_record.ensures ∙ c.if-not-is_record.false in
+    let h = MatchResult-at_ok _ _ _ c.unwrap.ensures c.try_into.ensures.1 in
     as_called
-    (c.run.ensures ∙ tick_ran a.state.now a.ram.now a.store.now a.cycles is c.judge_tick.result c.judge_tick.ensures c.in_ok-judge_tick.was)
+    (rw h.same at c.run.ensures ∙ tick_ran a.state.now a.ram.now a.store.now a.cycles is c.judge_tick.result c.judge_tick.ensures c.in_default.is)
     c.pack-2.ensures
     (tick_done a.state.now a.ram.now a.store.now a.cycles is)
 
-pub judge_tick-verdict-requires : goal.judge_tick-verdict-requires
-judge_tick-verdict-requires c = sym c.is_record.ensures ∙ c.if-not-is_record.false
+pub judge_tick-requires : goal.judge_tick-requires
+judge_tick-requires c = sym c.is_record.ensures ∙ c.if-not-is_record.false
 
 pub runs-requires : goal.runs-requires
 runs-requires c = sym c.is_record.ensures ∙ c.if-not-is_record.false

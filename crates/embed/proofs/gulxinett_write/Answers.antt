@@ -12,7 +12,7 @@ returns-then-not-is_record c =
 
 pub returns : goal.returns
 returns c =
-    as_called c.write.ensures c.done_answer.ensures (write_done _ _ _ _ _ _ (sym c.is_record.ensures ∙ c.if-not-is_record.false))
+    as_called c.write.ensures c.answer.ensures (write_done _ _ _ _ _ _ (sym c.is_record.ensures ∙ c.if-not-is_record.false))
 
 pub write-requires : goal.write-requires
 write-requires c = sym c.is_record.ensures ∙ c.if-not-is_record.false

@@ -14,7 +14,7 @@ returns-then-not-is_record c =
 
 pub returns : goal.returns
 returns c =
-    place_answered _ _ _ (λ k. search rules) (sym c.is_record.ensures ∙ c.if-not-is_record.false) _ c.place.result _ c.decode.ensures c.place.ensures _ c.done_answer.ensures
+    place_answered _ _ _ (λ k. search rules) (sym c.is_record.ensures ∙ c.if-not-is_record.false) _ c.place.result _ c.decode.ensures c.place.ensures _ c.answer.ensures
 
 pub decode-requires : goal.decode-requires
 decode-requires c = sym c.is_record.ensures ∙ c.if-not-is_record.false

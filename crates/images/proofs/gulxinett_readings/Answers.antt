@@ -11,7 +11,7 @@ returns-then-not-is_record c =
 
 pub returns : goal.returns
 returns c =
-    readings_written _ _ _ (sym c.is_record.ensures ∙ c.if-not-is_record.false) _ c.readings.result _ c.decode.ensures c.readings.ensures _ c.output_answer.ensures
+    readings_written _ _ _ (sym c.is_record.ensures ∙ c.if-not-is_record.false) _ c.readings.result _ c.decode.ensures c.readings.ensures _ c.answer.ensures
 
 pub decode-requires : goal.decode-requires
 decode-requires c = sym c.is_record.ensures ∙ c.if-not-is_record.false

@@ -12,23 +12,23 @@ use Rattle.ledger.specs.Audits.{noting}
 use Rattle.ledger.proofs.Audits.{room_sizes, summary_fits, summary_refuses, as_said}
 use Rattle.ledger.proofs.gulxinett_audit_summary.Goals as goal
 
-pub returns-in_err-judge_summary : goal.returns-in_err-judge_summary
-returns-in_err-judge_summary c =
+pub returns-in-Err : goal.returns-in-Err
+returns-in-Err c =
     let a = c.args in
     ap (λ p. noting p a.book.now a.out.now) c.refused.ensures
-    ∙ by_why (summary_refuses _ _ _) _ c.judge_summary.ensures _ c.in_err-judge_summary.was
+    ∙ by_why (summary_refuses _ _ _) _ c.judge_summary.ensures _ c.in-Err.is
 
 pub bounds-state-4 : goal.bounds-state-4
 bounds-state-4 c =
-    let f = summary_fits _ _ _ (fits_none _ _ c.judge_summary.ensures c.in_ok-judge_summary.was) in omega (arith, (record_parts _ f.0).long)
+    let f = summary_fits _ _ _ (fits_none _ _ c.judge_summary.ensures c.in_default.is) in omega (arith, (record_parts _ f.0).long)
 
 pub summary_put-written-requires : goal.summary_put-written-requires
 summary_put-written-requires c =
-    let z = room_sizes _ _ (summary_fits _ _ _ (fits_none _ _ c.judge_summary.ensures c.in_ok-judge_summary.was)).1 in (z.0, z.1)
+    let z = room_sizes _ _ (summary_fits _ _ _ (fits_none _ _ c.judge_summary.ensures c.in_default.is)).1 in (z.0, z.1)
 
 pub bounds-book-0 : goal.bounds-book-0
 bounds-book-0 c =
-    let z = room_sizes _ _ (summary_fits _ _ _ (fits_none _ _ c.judge_summary.ensures c.in_ok-judge_summary.was)).1 in omega (arith, z.0)
+    let z = room_sizes _ _ (summary_fits _ _ _ (fits_none _ _ c.judge_summary.ensures c.in_default.is)).1 in omega (arith, z.0)
 
 pub returns : goal.returns
 unfolding decoded
@@ -36,4 +36,4 @@ returns c =
     let p = c.summary_put-written in
     let a = c.args in
     as_said _ _ _ a.book.now a.out.now _ (summary_of a.book.now (decoded a.state.now).held) _ 400 (c.pack.ensures ∙ ap (λ n. packed 0 (n % 4294967296)) (p.ensures.end ∙ zero-add _)) refl p.ensures
-    ∙ by_fits (summary_refuses _ _ _) _ c.judge_summary.ensures c.in_ok-judge_summary.was
+    ∙ by_fits (summary_refuses _ _ _) _ c.judge_summary.ensures c.in_default.is

@@ -5,4 +5,4 @@ use Rattle.embed.proofs.keep.gulxinett_restore.Goals as goal
 pub returns : goal.returns
 returns c =
     let r = c.restore in
-    restore_read _ _ _ _ r.result _ _ _ r.ensures _ c.done_answer.ensures
+    restore_read _ _ _ _ r.result _ _ _ r.ensures _ c.answer.ensures

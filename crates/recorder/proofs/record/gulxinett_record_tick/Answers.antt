@@ -2,8 +2,8 @@
 use Rattle.recorder.proofs.Cases.{record_short, record_filled}
 use Rattle.recorder.proofs.record.gulxinett_record_tick.Goals as goal
 
-pub line_answer-requires : goal.line_answer-requires
-line_answer-requires c = let r = c.record_tick in record_short _ _ _ r.result r.new.out r.ensures
+pub answer-requires : goal.answer-requires
+answer-requires c = let r = c.record_tick in record_short _ _ _ r.result r.new.out r.ensures
 
 pub returns : goal.returns
-returns c = let r = c.record_tick in record_filled _ _ _ r.result r.new.out r.ensures _ c.line_answer.ensures
+returns c = let r = c.record_tick in record_filled _ _ _ r.result r.new.out r.ensures _ c.answer.ensures

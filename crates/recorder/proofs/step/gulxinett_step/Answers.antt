@@ -11,15 +11,15 @@ use Rattle.recorder.specs.Steps.{stepped}
 use Rattle.recorder.proofs.Steps.{step_fits, step_refuses, step_done}
 use Rattle.recorder.proofs.step.gulxinett_step.Goals as goal
 
-pub returns-in_err-judge_step : goal.returns-in_err-judge_step
-returns-in_err-judge_step c =
+pub returns-in-Err : goal.returns-in-Err
+returns-in-Err c =
     let a = c.args in
     ap (λ p. stepped p a.state.now a.ram.now a.store.now a.image.now a.out.now) c.refused.ensures
-    ∙ by_why (step_refuses _ _ _ _ _ _ _) _ c.judge_step.ensures _ c.in_err-judge_step.was
+    ∙ by_why (step_refuses _ _ _ _ _ _ _) _ c.judge_step.ensures _ c.in-Err.is
 
 pub line_done-length-requires : goal.line_done-length-requires
 line_done-length-requires c =
-    let f : (is_record c.args.state.now ≡ true) × (11 ≤ length c.args.out.now) = step_fits _ _ (fits_none _ _ c.judge_step.ensures c.in_ok-judge_step.was) in
+    let f : (is_record c.args.state.now ≡ true) × (11 ≤ length c.args.out.now) = step_fits _ _ (fits_none _ _ c.judge_step.ensures c.in_default.is) in
     (f.0, omega (arith, f.1))
 
 pub returns : goal.returns
@@ -29,4 +29,4 @@ returns c =
     step_done a.state.now a.rom.now a.ram.now a.store.now a.image.now a.line.now a.out.now
     p.new.state p.new.ram p.new.store p.new.image p.new.out p.result c.pack.result
     (λ k. search rules) p.ensures.1 p.ensures.0 c.pack.ensures
-    ∙ by_fits (step_refuses a.state.now a.rom.now a.ram.now a.store.now a.image.now a.line.now a.out.now) c.judge_step.result c.judge_step.ensures c.in_ok-judge_step.was
+    ∙ by_fits (step_refuses a.state.now a.rom.now a.ram.now a.store.now a.image.now a.line.now a.out.now) c.judge_step.result c.judge_step.ensures c.in_default.is
