@@ -134,15 +134,14 @@ module _ (y : ℕ) (bytes : List ℕ) where
   unfolding row_allowed
   row_long h = eqb-true (length bytes) 128 (both_right (leb y 0x7F) (eqb (length bytes) 128) h)
 
-  pub row_judged_lem : (out : List ℕ) (allowed : Bool) {n m : ℕ} → allowed ≡ row_allowed y (length bytes) → m ≡ before (too_short (length out) 261) 0 → n ≡ before (no_line (not allowed)) m
+  -- a row that has a line is judged by the room that this asks
+  pub room_judged : (out : List ℕ) {n : ℕ} → 0 ≡ before (no_line (not (row_allowed y (length bytes)))) 0 → n ≡ before (too_short (length out) 261) 0
       → n ≡ lowest (record_rows (not (row_allowed y (length bytes))) (row_line y bytes) out)
   unfolding record_rows lowest
-  row_judged_lem out allowed is room e =
-      e
-      ∙ (λ i. before (no_line (not (is i))) (room i))
-      ∙ either (row_allowed y (length bytes))
-      (λ t. ap (λ k. before (no_line (not (row_allowed y (length bytes)))) (before (too_short (length out) k) 0)) (sym (length_row_line (row_long t))))
-      (λ f. simp f)
+  room_judged out h e =
+      either (row_allowed y (length bytes))
+      (λ t. simp t (e ∙ ap (λ k. before (too_short (length out) k) 0) (sym (length_row_line (row_long t)))))
+      (λ f. let z : 0 ≡ 6 = simp f at h in absurd (omega arith))
 
   -- kind, row, bytes and LF, one after another
   pub row_put : (out : List ℕ) → length bytes ≡ 128 → 261 ≤ length out

@@ -1,9 +1,9 @@
 // Frames written as lines into a lent buffer, which is what a live session is recorded with.
-ghost use Rattle.std.specs.Prelude.{◌≡◌, false, [], ◌++◌, ◌+◌, ◌*◌, ◌≤◌, length};
+ghost use Rattle.std.specs.Prelude.{◌≡◌, false, not, [], ◌++◌, ◌+◌, ◌*◌, ◌≤◌, length};
 ghost use Rattle.controller.specs.Outcome.{verdict_number};
-ghost use Rattle.controller.specs.Table.{before};
+ghost use Rattle.controller.specs.Table.{before, lowest};
 ghost use Rattle.lines.specs.Hex.{hex_text, placed};
-ghost use Rattle.recording.specs.Record.{row_hex, row_line, row_allowed, ended, too_short, line_means, record_means, recorded};
+ghost use Rattle.recording.specs.Record.{row_hex, row_line, row_allowed, ended, too_short, record_rows, line_means, record_means, recorded};
 
 use controller::judge::refused_if;
 use controller::Refusal;
@@ -23,13 +23,11 @@ fn no_room(room: usize, length: usize) -> Result<(), Refusal>
 }
 
 // Whether a row has a line: 00 to 7F, with 128 bytes.
+#[tactic(auto, unfolding(crate::specs::Record::row_allowed))]
 fn row_allowed(y: u8, length: usize) -> bool
     ensures { result ≡ row_allowed y length }
 {
-    if 0x7F < y {
-        return false;
-    }
-    length == ROW
+    y <= 0x7F && length == ROW
 }
 
 // Writes a kind, so many digits of a value, and LF: the length of the line with its LF, as each of these functions answers.
@@ -74,12 +72,10 @@ pub fn put_bytes(out: &mut [u8], at: usize, bytes: &[u8])
     requires { at + 2 * length bytes.now ≤ length out.old }
     ensures { out.new ≡ placed out.old at (row_hex bytes.now) }
 {
-    let mut i = 0;
-    while i < bytes.len() {
+    for i in 0..bytes.len() {
         let b = bytes[i];
         out[at + 2 * i] = digit_byte(b / 16);
         out[at + 2 * i + 1] = digit_byte(b % 16);
-        i += 1;
     }
 }
 
@@ -94,12 +90,20 @@ fn put_row(out: &mut [u8], row: u8, bytes: &[u8])
     out[260] = 0x0A;
 }
 
+// What a row's line is refused by: 6, then 7.
+fn judge_row(row: u8, bytes: &[u8], out: &[u8]) -> Result<(), Refusal>
+    ensures { verdict_number result
+        ≡ lowest (record_rows (not (row_allowed row (length bytes.now))) (row_line row bytes.now) out.now) }
+{
+    refused_if(!row_allowed(row, bytes.len()), Refusal::Line)?;
+    no_room(out.len(), ROW_LINE)
+}
+
 // `04` row and 128 bytes of the image.
 pub fn record_row(row: u8, bytes: &[u8], out: &mut [u8]) -> Result<usize, Refusal>
     ensures { recorded result out.new ≡ record_means (Frame.Row row) bytes.now out.old }
 {
-    refused_if(!row_allowed(row, bytes.len()), Refusal::Line)?;
-    no_room(out.len(), ROW_LINE)?;
+    judge_row(row, bytes, out)?;
     put_row(out, row, bytes);
     Ok(ROW_LINE)
 }

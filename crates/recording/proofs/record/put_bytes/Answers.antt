@@ -12,43 +12,7 @@ use Rattle.recording.proofs.record.put_bytes.Goals as goal
 
 pub loop-i-init : goal.loop-i-init
 unfolding row_hex
-loop-i-init c = (omega arith, refl, sym (placed_none _ _))
-
-pub bounds-bytes-i : goal.bounds-bytes-i
-bounds-bytes-i c = omega arith
-
-pub digit_byte-requires : goal.digit_byte-requires
-digit_byte-requires c = omega (arith, c.shared_slice_known-in-loop-i-1.given c.loop-i.i)
-
-pub overflow_mul-out : goal.overflow_mul-out
-overflow_mul-out c = omega arith
-
-pub overflow_add-out : goal.overflow_add-out
-overflow_add-out c = omega arith
-
-pub bounds-out-at : goal.bounds-out-at
-bounds-out-at c = omega arith
-
-pub digit_byte-requires-in-loop-i : goal.digit_byte-requires-in-loop-i
-digit_byte-requires-in-loop-i c = omega arith
-
-pub overflow_mul-out-in-loop-i : goal.overflow_mul-out-in-loop-i
-overflow_mul-out-in-loop-i c = omega arith
-
-pub overflow_add-out-in-loop-i : goal.overflow_add-out-in-loop-i
-overflow_add-out-in-loop-i c = omega arith
-
-pub overflow_add-out-in-loop-i-2 : goal.overflow_add-out-in-loop-i-2
-overflow_add-out-in-loop-i-2 c = omega arith
-
-pub bounds-out-at-in-loop-i : goal.bounds-out-at-in-loop-i
-bounds-out-at-in-loop-i c = simp length-set (omega arith)
-
-pub overflow_add-i : goal.overflow_add-i
-overflow_add-i c = omega arith
-
-pub loop-i-smaller : goal.loop-i-smaller
-loop-i-smaller c = omega arith
+loop-i-init c = (refl, sym (placed_none _ _))
 
 pub loop-i-preserved : goal.loop-i-preserved
 loop-i-preserved c =
@@ -56,17 +20,16 @@ loop-i-preserved c =
     let l = c.loop-i in
     let k = a.at + 2 * l.i in
     let small = c.shared_slice_known-in-loop-i-1.given l.i in (
-      omega arith,
-      simp length-set l.invariant.1,
-      (λ j. set (set (l.invariant.2 j) k (c.digit_byte.ensures j)) (k + 1) (c.digit_byte-in-loop-i.ensures j))
+      simp length-set l.invariant.0,
+      (λ j. set (set (l.invariant.1 j) k (c.digit_byte.ensures j)) (k + 1) (c.digit_byte-in-loop-i.ensures j))
           ∙ row_stored a.out.now a.at a.bytes.now l.i (omega arith) (omega (arith, small)) (omega arith),
     )
 
 pub shape_of-out : goal.shape_of-out
-shape_of-out c = c.loop-i.invariant.1
+shape_of-out c = c.loop-i.invariant.0
 
 pub returns : goal.returns
 returns c =
     let a = c.args in
     let l = c.loop-i in
-    l.invariant.2 ∙ ap (λ t. placed a.out.now a.at (row_hex t)) (take_all l.i a.bytes.now (omega arith))
+    l.invariant.1 ∙ ap (λ t. placed a.out.now a.at (row_hex t)) (take_all l.i a.bytes.now (omega arith))

@@ -4,6 +4,7 @@ use mathlib.Core.Bool.{false}
 use Prim.Native.Nat.{◌+◌}
 use native.Mathlib.Nat.{zero-add}
 use native.Mathlib.Omega.{arith}
+use Rattle.std.proofs.lemmas.Result.{err_from_is_err_and}
 use Rattle.controller.proofs.Refusals.{by_why, by_fits, fits_none}
 use Rattle.lines.specs.Hex.{placed}
 use Rattle.recording.specs.Record.{recording}
@@ -12,23 +13,21 @@ use Rattle.recording.proofs.record.record_digits.Goals as goal
 
 pub returns-in_err-no_room : goal.returns-in_err-no_room
 returns-in_err-no_room c =
-    let m = c in
-    let a = m.args in
-    by_why (line_refuses false (numbers a.kind a.digits a.value) a.out.now) _ (digits_judged a.kind a.digits a.value a.out.now m.no_room.ensures) _ c.in_err-no_room.was
+    let a = c.args in
+    let p = err_from_is_err_and c.from_residual.result c.from_residual.ensures.1 in
+    rw (p.1, p.2) (by_why (line_refuses false (numbers a.kind a.digits a.value) a.out.now) _ (digits_judged a.kind a.digits a.value a.out.now c.no_room.ensures) _ c.in_err-no_room.was)
 
 pub put_line-requires : goal.put_line-requires
 put_line-requires c =
-    let e = c in
-    let a = e.args in
-    let f = line_fits false (numbers a.kind a.digits a.value) a.out.now (fits_none _ _ (digits_judged a.kind a.digits a.value a.out.now e.no_room.ensures) e.in_ok-no_room.was) in
+    let a = c.args in
+    let f = line_fits false (numbers a.kind a.digits a.value) a.out.now (fits_none _ _ (digits_judged a.kind a.digits a.value a.out.now c.no_room.ensures) c.in_ok-no_room.was) in
     omega (arith, f.room, length_digits a.kind a.digits a.value)
 
 pub returns : goal.returns
 returns c =
-    let e = c in
-    let a = e.args in
+    let a = c.args in
     let p = c.put_line.ensures in
     let n = p.1 ∙ zero-add (3 + a.digits) ∙ sym (length_digits a.kind a.digits a.value) in
     let o = p.0 ∙ ap (placed a.out.now 0) (sym (ended_printed a.kind a.digits a.value)) in
     (λ i. recording 0 (n i) (o i))
-    ∙ by_fits (line_refuses false (numbers a.kind a.digits a.value) a.out.now) _ (digits_judged a.kind a.digits a.value a.out.now e.no_room.ensures) e.in_ok-no_room.was
+    ∙ by_fits (line_refuses false (numbers a.kind a.digits a.value) a.out.now) _ (digits_judged a.kind a.digits a.value a.out.now c.no_room.ensures) c.in_ok-no_room.was
