@@ -72,7 +72,8 @@ pub extern "C" fn gulxinett_tick(state: &mut [u8], ram: &mut [u8], store: &[u8],
     if !calls::runs(state) {
         return pack(0, 0);
     }
-    pack(0, calls::run(state, ram, store.try_into().unwrap(), cycles))
+    let store: &[u8; 16384] = store.try_into().unwrap();
+    pack(0, calls::run(state, ram, store, cycles))
 }
 
 // The exposure that a number names; above FFFF none.

@@ -32,17 +32,25 @@ returns-then-not-runs c =
     c.pack.ensures
     (tick_done a.state.now a.ram.now a.store.now a.cycles is)
 
+pub unwrap-store-requires : goal.unwrap-store-requires
+unwrap-store-requires c =
+    let a = c.args in
+    let t = tick_runs a.state.now a.ram.now a.store.now a.cycles (sym c.is_record.ensures ∙ c.if-not-is_record.false) c.judge_tick.result c.judge_tick.ensures c.in_default.is
+        (sym c.runs.ensures ∙ c.if-not-runs.false) in
+    c.try_into.ensures.0 t.4
+
 pub run-requires : goal.run-requires
 run-requires c =
     let a = c.args in
-    tick_runs a.state.now a.ram.now a.store.now a.cycles (sym c.is_record.ensures ∙ c.if-not-is_record.false) c.judge_tick.result c.judge_tick.ensures c.in_default.is
-    (sym c.runs.ensures ∙ c.if-not-runs.false)
+    let t = tick_runs a.state.now a.ram.now a.store.now a.cycles (sym c.is_record.ensures ∙ c.if-not-is_record.false) c.judge_tick.result c.judge_tick.ensures c.in_default.is
+        (sym c.runs.ensures ∙ c.if-not-runs.false) in
+    (t.0, t.1, t.2, t.3)
 
 pub returns : goal.returns
 returns c =
     let a = c.args in
     let is = sym c.is_record.ensures ∙ c.if-not-is_record.false in
-    let h = MatchResult-at_ok _ _ _ c.unwrap.ensures c.try_into.ensures.1 in
+    let h = MatchResult-at_ok _ _ _ c.unwrap-store.ensures c.try_into.ensures.1 in
     as_called
     (rw h.same at c.run.ensures ∙ tick_ran a.state.now a.ram.now a.store.now a.cycles is c.judge_tick.result c.judge_tick.ensures c.in_default.is)
     c.pack-2.ensures
