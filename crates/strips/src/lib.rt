@@ -23,31 +23,6 @@ fn high_weight(v: u8, l: u8, m: u8, h: u8, w: u8) -> u8
     either(v < l, w, either(v < m, w, 0))
 }
 
-// One of the three thresholds of a row of the matrix, for eight columns.
-fn thresholds(regs: &[u8; 54], at: usize) -> [u8; 8]
-    requires { at < 45 }
-    ensures { result ≡ listed (λ b. get_or regs.now (at + 3 * (b % 4)) 0) 8 }
-{
-    let a = regs[at];
-    let b = regs[at + 3];
-    let c = regs[at + 6];
-    let d = regs[at + 9];
-    [a, b, c, d, a, b, c, d]
-}
-
-// What stands at eight columns, for all 128, turned.
-fn repeat(eight: [u8; 8]) -> [u8; 128]
-    ensures { result ≡ listed (λ p. get_or eight (p / 16) 0) 128 }
-{
-    let mut out = [0u8; 128];
-    for b in 0..8 {
-        for t in 0..16 {
-            out[16 * b + t] = eight[b];
-        }
-    }
-    out
-}
-
 // The two halves of a row, one from each by turns: a vector's own step.
 fn interleave(a: &[u8; 128]) -> [u8; 128]
     ensures { result ≡ listed (λ p. get_or a.now (p % 2 * 64 + p / 2) 0) 128 }
@@ -70,35 +45,32 @@ pub fn turn(values: &[u8; 128]) -> [u8; 128]
     interleave(&thrice)
 }
 
-// The matrix spread over the columns, turned: for each of its four rows the first thresholds of all 128, then the second, and then the third.
-pub fn spread(regs: &[u8; 54], out: &mut [u8])
-    requires { length out.old ≡ 1536 }
+// The matrix spread over the columns, turned: for each of its four rows the first thresholds of all 128, then the second, and then the third. What
+// stands at a column is that of each of the sixteen tiles.
+pub fn spread(regs: &[u8; 54], out: &mut [u8; 1536])
     ensures { out.new ≡ spread_of regs.now }
 {
-    for j in 0..12 {
-        let line = repeat(thresholds(regs, 6 + 12 * (j % 4) + j / 4));
-        for x in 0..128 {
-            out[128 * j + x] = line[x];
-        }
+    for i in 0..96 {
+        out[16 * i..16 * i + 16].fill(regs[6 + 12 * (i / 8 % 4) + 3 * (i % 4) + i / 32]);
     }
 }
 
-// Adds the bits of one column more, the b-th of each of sixteen tiles, to the bytes of those before it: w is their weight. The columns are turned; their
-// thresholds stand from `at` on. The bytes are changed where they stand, so that they stay in registers from column to column.
+// Adds the bits of one column more, the b-th of each of sixteen tiles, to the bytes of those before it. The columns are turned; their thresholds stand
+// from `at` on. The bytes are changed where they stand, so that they stay in registers from column to column.
 fn add_column(
     values: &[u8; 128],
     matrix: &[u8; 1536],
     at: usize,
     b: usize,
-    w: u8,
     low: &mut [u8; 16],
     high: &mut [u8; 16],
 )
-    requires at_bound { (at < 385) × (b < 8) × (w ≡ place_of (b + 1)) }
+    requires at_bound { (at < 385) × (b < 8) }
     requires low_value { (low.old ≡ listed (low_bits values.now matrix.now at b) 16) × (high.old ≡ listed (high_bits values.now matrix.now at b) 16) }
     ensures { (low.new ≡ listed (low_bits values.now matrix.now at (b + 1)) 16)
         × (high.new ≡ listed (high_bits values.now matrix.now at (b + 1)) 16) }
 {
+    let w = 128u8 >> b;
     for t in 0..16 {
         let p = 16 * b + t;
         let v = values[p];
@@ -125,9 +97,7 @@ pub fn shade_row(
 {
     let turned = turn(values);
     let at = 128 * (row % 4);
-    let mut w = 128u8;
     for b in 0..8 {
-        add_column(&turned, matrix, at, b, w, low, high);
-        w = w / 2;
+        add_column(&turned, matrix, at, b, low, high);
     }
 }
