@@ -1,27 +1,17 @@
 -- A row's shades as bytes: the bits of eight columns, one after another. Assumes nothing.
 use mathlib.Core.Path.{◌≡◌, refl, ap, ap₂, ◌∙◌}
-use mathlib.Core.Bool.{Bool, true, false}
 use mathlib.Core.List.{List}
 use Prim.Native.Nat.{ℕ, zero, suc, ◌+◌, ◌*◌, ◌/◌, ◌%◌, ◌^◌, ◌<◌, ◌≤◌}
 use native.Mathlib.Nat.{add-zero}
 use native.Mathlib.Omega.{arith}
-use lib.Dec.{ltb, lit<}
 use lib.ListN.{get_or, set}
 use lib.Seq.{get_or-set_other}
-use Rattle.laws.specs.Pick.{pick}
 use Rattle.laws.specs.Lists.{listed, packed}
 use Rattle.laws.proofs.Order.{split}
 use Rattle.laws.proofs.Packed.{packed_ext, listed_length, listed_at, listed_ext}
 use Rattle.laws.proofs.Filled.{Filled, filled_all, filled_more}
 use Rattle.sensor.specs.Shade.{element, shade_of}
-use Rattle.strips.specs.Aside.{column_of, threshold_at, spread_of, turned_shade, place_of, bits_of, low_bits, high_bits, low_of, high_of}
-
--- a high bit is a bit
-high_two : (a b c : Bool) → pick {X = ℕ} a 3 (pick b 2 (pick c 1 0)) / 2 < 2
-high_two true b c = lit< tt
-high_two false true c = lit< tt
-high_two false false true = lit< tt
-high_two false false false = lit< tt
+use Rattle.strips.specs.Aside.{column_of, threshold_at, spread_of, turned_shade, place_of, bits_of, bytes_of, low_of, high_of}
 
 -- ---- the bits of one column more
 
@@ -56,6 +46,10 @@ eight P a b c d e f g h (suc (suc (suc (suc (suc zero))))) l = f
 eight P a b c d e f g h (suc (suc (suc (suc (suc (suc zero)))))) l = g
 eight P a b c d e f g h (suc (suc (suc (suc (suc (suc (suc zero))))))) l = h
 eight P a b c d e f g h (suc (suc (suc (suc (suc (suc (suc (suc n)))))))) l = absurd (omega arith)
+
+-- the next weight is half of it
+pub next_weight : (b : ℕ) → b < 8 → place_of (b + 1) / 2 ≡ place_of (b + 1 + 1)
+next_weight = eight (λ b. place_of (b + 1) / 2 ≡ place_of (b + 1 + 1)) refl refl refl refl refl refl refl refl
 
 -- the weight of a column
 pub weight_of : (b : ℕ) → b < 8 → 128 / 2 ^ b ≡ place_of (b + 1)
@@ -107,34 +101,14 @@ pub all : (f : ℕ → ℕ) (g : ℕ → ℕ → ℕ) → ((t k : ℕ) → t < 1
     → bytes ≡ listed (bits_of f b) 16 → bytes ≡ listed (λ t. packed (g t) 8) 16
 all f g same e m = rw e at m ∙ listed_ext _ _ 16 (λ t h. let p = packed_ext (λ k. f (16 * k + t)) (g t) 8 (λ k l. same t k h l) in omega arith)
 
-module _ (values matrix : List ℕ) (at : ℕ) where
-  low_two : (p : ℕ) → turned_shade values matrix at p % 2 < 2
-  low_two p = omega arith
+-- eight columns are all of them
+pub eight_columns : (f : ℕ → ℕ) {b : ℕ} {bytes : List ℕ} → b ≡ 8 → bytes ≡ listed (bits_of f b) 16 → bytes ≡ listed (bytes_of f) 16
+eight_columns f = all f (λ t k. f (16 * k + t)) (λ t k h l. refl)
 
-  shade_two : (p : ℕ) → turned_shade values matrix at p / 2 < 2
-  unfolding turned_shade
-  shade_two p =
-      let v = get_or values p 0 in
-      high_two (ltb v (get_or matrix (at + p) 0)) (ltb v (get_or matrix (at + p + 512) 0)) (ltb v (get_or matrix (at + p + 1024) 0))
-
-  abbrev pub Low : ℕ → ℕ → List ℕ → Type 0
-  Low = Next (λ p. turned_shade values matrix at p % 2)
-
-  abbrev pub High : ℕ → ℕ → List ℕ → Type 0
-  High = Next (λ p. turned_shade values matrix at p / 2)
-
-  module _ {b w : ℕ} (h : b < 8) (weight : w ≡ place_of (b + 1)) {was : List ℕ} {t v : ℕ} where
-    pub low_room : Low b t was → t < 16 → v ≡ turned_shade values matrix at (16 * b + t) % 2 * w → get_or was t 0 + v < 256
-    low_room = column_room (λ p. turned_shade values matrix at p % 2) low_two h weight
-
-    pub low_next : Low b t was → t < 16 → v ≡ turned_shade values matrix at (16 * b + t) % 2 * w → Low b (t + 1) (set was t (get_or was t 0 + v))
-    low_next = column_next (λ p. turned_shade values matrix at p % 2) low_two h weight
-
-    pub high_room : High b t was → t < 16 → v ≡ turned_shade values matrix at (16 * b + t) / 2 * w → get_or was t 0 + v < 256
-    high_room = column_room (λ p. turned_shade values matrix at p / 2) shade_two h weight
-
-    pub high_next : High b t was → t < 16 → v ≡ turned_shade values matrix at (16 * b + t) / 2 * w → High b (t + 1) (set was t (get_or was t 0 + v))
-    high_next = column_next (λ p. turned_shade values matrix at p / 2) shade_two h weight
+-- and the bytes of a row that is turned are those of the row
+pub bytes_same : (f : ℕ → ℕ) (g : ℕ → ℕ → ℕ) → ((t k : ℕ) → t < 16 → k < 8 → f (16 * k + t) ≡ g t k) → {bytes : List ℕ}
+    → bytes ≡ listed (bytes_of f) 16 → bytes ≡ listed (λ t. packed (g t) 8) 16
+bytes_same f g same e = e ∙ listed_ext _ _ 16 (λ t h. packed_ext (λ k. f (16 * k + t)) (g t) 8 (λ k l. same t k h l))
 
 -- ---- a row that is turned
 
@@ -210,12 +184,12 @@ module _ (values regs : List ℕ) (row : ℕ) where
     shade : (t b : ℕ) → t < 16 → b < 8 → turned_shade line matrix at (16 * b + t) ≡ shade_of regs (8 * t + b) row (get_or values (8 * t + b) 0)
     shade t b h l = same (16 * b + t) (omega arith) ∙ ap (λ (x : ℕ). shade_of regs x row (get_or values x 0)) (column t b h)
 
-    pub low_all : {b : ℕ} {bytes : List ℕ} → b ≡ 8 → bytes ≡ listed (low_bits line matrix at b) 16 → bytes ≡ listed (low_of values regs row) 16
+    pub low_all : {bytes : List ℕ} → bytes ≡ listed (bytes_of (λ p. turned_shade line matrix at p % 2)) 16 → bytes ≡ listed (low_of values regs row) 16
     unfolding low_of
     low_all =
-        all (λ p. turned_shade line matrix at p % 2) (λ t b. shade_of regs (8 * t + b) row (get_or values (8 * t + b) 0) % 2) (λ t b h l. ap (λ (s : ℕ). s % 2) (shade t b h l))
+        bytes_same (λ p. turned_shade line matrix at p % 2) (λ t b. shade_of regs (8 * t + b) row (get_or values (8 * t + b) 0) % 2) (λ t b h l. ap (λ (s : ℕ). s % 2) (shade t b h l))
 
-    pub high_all : {b : ℕ} {bytes : List ℕ} → b ≡ 8 → bytes ≡ listed (high_bits line matrix at b) 16 → bytes ≡ listed (high_of values regs row) 16
+    pub high_all : {bytes : List ℕ} → bytes ≡ listed (bytes_of (λ p. turned_shade line matrix at p / 2)) 16 → bytes ≡ listed (high_of values regs row) 16
     unfolding high_of
     high_all =
-        all (λ p. turned_shade line matrix at p / 2) (λ t b. shade_of regs (8 * t + b) row (get_or values (8 * t + b) 0) / 2) (λ t b h l. ap (λ (s : ℕ). s / 2) (shade t b h l))
+        bytes_same (λ p. turned_shade line matrix at p / 2) (λ t b. shade_of regs (8 * t + b) row (get_or values (8 * t + b) 0) / 2) (λ t b h l. ap (λ (s : ℕ). s / 2) (shade t b h l))

@@ -6,4 +6,4 @@ use Rattle.strips.proofs.spread.Goals as goal
 
 pub returns : goal.returns
 unfolding spread_of
-returns c = filled_end _ _ c.loop-i.invariant (omega arith)
+returns c = filled_end _ _ c.loop-j.invariant (omega arith)
