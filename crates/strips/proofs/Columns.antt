@@ -1,47 +1,17 @@
 -- A row's shades as bytes: the bits of eight columns, one after another. Assumes nothing.
 use mathlib.Core.Path.{◌≡◌, refl, ap, ap₂, ◌∙◌}
-use mathlib.Core.Bool.{Bool, true, false}
 use mathlib.Core.List.{List}
-use Prim.Native.Nat.{ℕ, zero, suc, ◌+◌, ◌*◌, ◌/◌, ◌%◌, ◌<◌, ◌≤◌}
+use Prim.Native.Nat.{ℕ, zero, suc, ◌+◌, ◌*◌, ◌/◌, ◌%◌, ◌^◌, ◌<◌, ◌≤◌}
 use native.Mathlib.Nat.{add-zero}
 use native.Mathlib.Omega.{arith}
-use lib.Dec.{ltb, leb, lit<}
-use borrow.Author.Tests.{lt-ltb, le-ltb, le-leb, lt-leb}
 use lib.ListN.{get_or, set}
 use lib.Seq.{get_or-set_other}
-use Rattle.laws.specs.Pick.{pick}
 use Rattle.laws.specs.Lists.{listed, packed}
 use Rattle.laws.proofs.Order.{split}
 use Rattle.laws.proofs.Packed.{packed_ext, listed_length, listed_at, listed_ext}
 use Rattle.laws.proofs.Filled.{Filled, filled_all, filled_more}
 use Rattle.sensor.specs.Shade.{element, shade_of}
-use Rattle.strips.specs.Aside.{column_of, threshold_at, spread_of, turned_shade, place_of, bits_of, low_bits, high_bits, low_of, high_of}
-
--- ---- one column: the tests that a shade is made of, made of its bits
-
-pub low_picked : (a : Bool) (m h v w : ℕ) → pick a w (pick (leb h v) 0 (pick (leb m v) w 0)) ≡ pick {X = ℕ} a 3 (pick (ltb v m) 2 (pick (ltb v h) 1 0)) % 2 * w
-low_picked true m h v w = omega arith
-low_picked false m h v w =
-    split v h
-    (λ below. split v m
-    (λ dark. simp (lt-leb h v below, lt-leb m v dark, lt-ltb v m dark) (omega arith))
-    (λ light. simp (lt-leb h v below, le-leb m v light, le-ltb v m light, lt-ltb v h below) (omega arith)))
-    (λ above. split v m
-    (λ dark. simp (le-leb h v above, lt-ltb v m dark) (omega arith))
-    (λ light. simp (le-leb h v above, le-ltb v m light, le-ltb v h above) (omega arith)))
-
-pub high_picked : (a b c : Bool) (w : ℕ) → pick a w (pick b w 0) ≡ pick {X = ℕ} a 3 (pick b 2 (pick c 1 0)) / 2 * w
-high_picked true b c w = omega arith
-high_picked false true c w = omega arith
-high_picked false false true w = omega arith
-high_picked false false false w = omega arith
-
--- a high bit is a bit
-high_two : (a b c : Bool) → pick {X = ℕ} a 3 (pick b 2 (pick c 1 0)) / 2 < 2
-high_two true b c = lit< tt
-high_two false true c = lit< tt
-high_two false false true = lit< tt
-high_two false false false = lit< tt
+use Rattle.strips.specs.Aside.{column_of, threshold_at, spread_of, turned_shade, place_of, bits_of, bytes_of, low_of, high_of}
 
 -- ---- the bits of one column more
 
@@ -80,6 +50,10 @@ eight P a b c d e f g h (suc (suc (suc (suc (suc (suc (suc (suc n)))))))) l = ab
 -- the next weight is half of it
 pub next_weight : (b : ℕ) → b < 8 → place_of (b + 1) / 2 ≡ place_of (b + 1 + 1)
 next_weight = eight (λ b. place_of (b + 1) / 2 ≡ place_of (b + 1 + 1)) refl refl refl refl refl refl refl refl
+
+-- the weight of a column
+pub weight_of : (b : ℕ) → b < 8 → 128 / 2 ^ b ≡ place_of (b + 1)
+weight_of = eight (λ b. 128 / 2 ^ b ≡ place_of (b + 1)) refl refl refl refl refl refl refl refl
 
 module _ (f : ℕ → ℕ) (two : (k : ℕ) → f k < 2) where
   abbrev bits : ℕ → ℕ
@@ -127,47 +101,14 @@ pub all : (f : ℕ → ℕ) (g : ℕ → ℕ → ℕ) → ((t k : ℕ) → t < 1
     → bytes ≡ listed (bits_of f b) 16 → bytes ≡ listed (λ t. packed (g t) 8) 16
 all f g same e m = rw e at m ∙ listed_ext _ _ 16 (λ t h. let p = packed_ext (λ k. f (16 * k + t)) (g t) 8 (λ k l. same t k h l) in omega arith)
 
-module _ (values matrix : List ℕ) (at : ℕ) where
-  low_two : (p : ℕ) → turned_shade values matrix at p % 2 < 2
-  low_two p = omega arith
+-- eight columns are all of them
+pub eight_columns : (f : ℕ → ℕ) {b : ℕ} {bytes : List ℕ} → b ≡ 8 → bytes ≡ listed (bits_of f b) 16 → bytes ≡ listed (bytes_of f) 16
+eight_columns f = all f (λ t k. f (16 * k + t)) (λ t k h l. refl)
 
-  shade_two : (p : ℕ) → turned_shade values matrix at p / 2 < 2
-  unfolding turned_shade
-  shade_two p =
-      let v = get_or values p 0 in
-      high_two (ltb v (get_or matrix (at + p) 0)) (ltb v (get_or matrix (at + p + 512) 0)) (ltb v (get_or matrix (at + p + 1024) 0))
-
-  abbrev pub Low : ℕ → ℕ → List ℕ → Type 0
-  Low = Next (λ p. turned_shade values matrix at p % 2)
-
-  abbrev pub High : ℕ → ℕ → List ℕ → Type 0
-  High = Next (λ p. turned_shade values matrix at p / 2)
-
-  module _ {b w : ℕ} (h : b < 8) (weight : w ≡ place_of (b + 1)) {was : List ℕ} {t v : ℕ} where
-    pub low_room : Low b t was → t < 16 → v ≡ turned_shade values matrix at (16 * b + t) % 2 * w → get_or was t 0 + v < 256
-    low_room = column_room (λ p. turned_shade values matrix at p % 2) low_two h weight
-
-    pub low_next : Low b t was → t < 16 → v ≡ turned_shade values matrix at (16 * b + t) % 2 * w → Low b (t + 1) (set was t (get_or was t 0 + v))
-    low_next = column_next (λ p. turned_shade values matrix at p % 2) low_two h weight
-
-    pub high_room : High b t was → t < 16 → v ≡ turned_shade values matrix at (16 * b + t) / 2 * w → get_or was t 0 + v < 256
-    high_room = column_room (λ p. turned_shade values matrix at p / 2) shade_two h weight
-
-    pub high_next : High b t was → t < 16 → v ≡ turned_shade values matrix at (16 * b + t) / 2 * w → High b (t + 1) (set was t (get_or was t 0 + v))
-    high_next = column_next (λ p. turned_shade values matrix at p / 2) shade_two h weight
-
--- ---- the matrix spread: a row of thresholds of it, from eight columns to all
-
-pub spread_at : (regs : List ℕ) (j x : ℕ) {four line : List ℕ} → x < 128
-    → four ≡ listed (λ b. get_or regs (6 + 12 * (j % 4) + j / 4 + 3 * (b % 4)) 0) 8 → line ≡ listed (λ p. get_or four (p / 16) 0) 128
-    → get_or line x 0 ≡ threshold_at regs (128 * j + x)
-spread_at regs j x {four} {line} h e f =
-    let a : (128 * j + x) / 128 ≡ j = omega arith in
-    let b : (128 * j + x) / 512 ≡ j / 4 = omega arith in
-    let c : (128 * j + x) % 128 ≡ x = omega arith in
-    let p : get_or line x 0 ≡ get_or four (x / 16) 0 = rw f (listed_at (λ p. get_or four (p / 16) 0) 128 x h) in
-    let q : get_or four (x / 16) 0 ≡ get_or regs (6 + 12 * (j % 4) + j / 4 + 3 * (x / 16 % 4)) 0 = rw e (listed_at (λ b. get_or regs (6 + 12 * (j % 4) + j / 4 + 3 * (b % 4)) 0) 8 (x / 16) (omega arith)) in
-    p ∙ q ∙ ap (λ (n : ℕ). get_or regs n 0) (rw (a, b, c) (omega arith))
+-- and the bytes of a row that is turned are those of the row
+pub bytes_same : (f : ℕ → ℕ) (g : ℕ → ℕ → ℕ) → ((t k : ℕ) → t < 16 → k < 8 → f (16 * k + t) ≡ g t k) → {bytes : List ℕ}
+    → bytes ≡ listed (bytes_of f) 16 → bytes ≡ listed (λ t. packed (g t) 8) 16
+bytes_same f g same e = e ∙ listed_ext _ _ 16 (λ t h. packed_ext (λ k. f (16 * k + t)) (g t) 8 (λ k l. same t k h l))
 
 -- ---- a row that is turned
 
@@ -243,12 +184,12 @@ module _ (values regs : List ℕ) (row : ℕ) where
     shade : (t b : ℕ) → t < 16 → b < 8 → turned_shade line matrix at (16 * b + t) ≡ shade_of regs (8 * t + b) row (get_or values (8 * t + b) 0)
     shade t b h l = same (16 * b + t) (omega arith) ∙ ap (λ (x : ℕ). shade_of regs x row (get_or values x 0)) (column t b h)
 
-    pub low_all : {b : ℕ} {bytes : List ℕ} → b ≡ 8 → bytes ≡ listed (low_bits line matrix at b) 16 → bytes ≡ listed (low_of values regs row) 16
+    pub low_all : {bytes : List ℕ} → bytes ≡ listed (bytes_of (λ p. turned_shade line matrix at p % 2)) 16 → bytes ≡ listed (low_of values regs row) 16
     unfolding low_of
     low_all =
-        all (λ p. turned_shade line matrix at p % 2) (λ t b. shade_of regs (8 * t + b) row (get_or values (8 * t + b) 0) % 2) (λ t b h l. ap (λ (s : ℕ). s % 2) (shade t b h l))
+        bytes_same (λ p. turned_shade line matrix at p % 2) (λ t b. shade_of regs (8 * t + b) row (get_or values (8 * t + b) 0) % 2) (λ t b h l. ap (λ (s : ℕ). s % 2) (shade t b h l))
 
-    pub high_all : {b : ℕ} {bytes : List ℕ} → b ≡ 8 → bytes ≡ listed (high_bits line matrix at b) 16 → bytes ≡ listed (high_of values regs row) 16
+    pub high_all : {bytes : List ℕ} → bytes ≡ listed (bytes_of (λ p. turned_shade line matrix at p / 2)) 16 → bytes ≡ listed (high_of values regs row) 16
     unfolding high_of
     high_all =
-        all (λ p. turned_shade line matrix at p / 2) (λ t b. shade_of regs (8 * t + b) row (get_or values (8 * t + b) 0) / 2) (λ t b h l. ap (λ (s : ℕ). s / 2) (shade t b h l))
+        bytes_same (λ p. turned_shade line matrix at p / 2) (λ t b. shade_of regs (8 * t + b) row (get_or values (8 * t + b) 0) / 2) (λ t b h l. ap (λ (s : ℕ). s / 2) (shade t b h l))

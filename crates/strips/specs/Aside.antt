@@ -35,9 +35,6 @@ place_of b = get_or (256 ∷ 128 ∷ 64 ∷ 32 ∷ 16 ∷ 8 ∷ 4 ∷ 2 ∷ 1 �
 abbrev pub bits_of : (ℕ → ℕ) → ℕ → ℕ → ℕ
 bits_of f b t = packed (λ k. f (16 * k + t)) b * place_of b
 
--- the low bits, and the high bits
-abbrev pub low_bits : List ℕ → List ℕ → ℕ → ℕ → ℕ → ℕ
-low_bits values matrix at = bits_of (λ p. turned_shade values matrix at p % 2)
-
-abbrev pub high_bits : List ℕ → List ℕ → ℕ → ℕ → ℕ → ℕ
-high_bits values matrix at = bits_of (λ p. turned_shade values matrix at p / 2)
+-- all eight of tile t, its byte
+abbrev pub bytes_of : (ℕ → ℕ) → ℕ → ℕ
+bytes_of f t = packed (λ k. f (16 * k + t)) 8

@@ -3,52 +3,31 @@
 // what is alike stands side by side, and a byte gets its eight bits where it stands.
 #![tactic(auto)]
 
-ghost use Rattle.std.specs.Prelude.{◌≡◌, ◌+◌, ◌*◌, ◌/◌, ◌%◌, ◌<◌, length, get_or};
+ghost use Rattle.std.specs.Prelude.{◌≡◌, ℕ, ◌+◌, ◌*◌, ◌/◌, ◌%◌, ◌<◌, length, get_or};
 ghost use Rattle.laws.specs.Lists.{listed};
-ghost use Rattle.sensor.specs.Shade.{shade_by};
-ghost use Rattle.strips.specs.Aside.{low_of, high_of, column_of, spread_of, place_of, low_bits, high_bits};
+ghost use Rattle.strips.specs.Aside.{low_of, high_of, column_of, spread_of, turned_shade, bits_of, bytes_of};
+ghost use Rattle.strips.specs.Turned.{shade_bits};
 
 use sensor::shade::either;
 
-// What a value adds to the byte of low bits, and to that of high bits, w the weight of its place. The tests are put so that each is a vector's own.
-fn low_weight(v: u8, l: u8, m: u8, h: u8, w: u8) -> u8
-    ensures { result ≡ shade_by l m h v % 2 * w }
-{
-    either(v < l, w, either(h <= v, 0, either(m <= v, w, 0)))
+// A row of pixels, two bits each, whose columns are turned. `weigh` is a vector's own step: it asks nothing that becomes a branch.
+pub trait Turned {
+    // the low bit, and the high bit, of what stands at a place
+    ghost low: { Self → ℕ → ℕ };
+
+    ghost high: { Self → ℕ → ℕ };
+
+    // What it adds to the byte of low bits, and to that of high bits, w the weight of its place.
+    fn weigh(&self, p: usize, w: u8) -> (u8, u8)
+        requires { p < 128 }
+        ensures { (result.0 ≡ low self.now p * w) × (result.1 ≡ high self.now p * w) };
+
+    // each is one bit
+    ghost bits: { (row : Self) (p : ℕ) → (low row p < 2) × (high row p < 2) };
 }
 
-fn high_weight(v: u8, l: u8, m: u8, h: u8, w: u8) -> u8
-    ensures { result ≡ shade_by l m h v / 2 * w }
-{
-    either(v < l, w, either(v < m, w, 0))
-}
-
-// One of the three thresholds of a row of the matrix, for eight columns.
-fn thresholds(regs: &[u8; 54], at: usize) -> [u8; 8]
-    requires { at < 45 }
-    ensures { result ≡ listed (λ b. get_or regs.now (at + 3 * (b % 4)) 0) 8 }
-{
-    let a = regs[at];
-    let b = regs[at + 3];
-    let c = regs[at + 6];
-    let d = regs[at + 9];
-    [a, b, c, d, a, b, c, d]
-}
-
-// What stands at eight columns, for all 128, turned.
-fn repeat(eight: [u8; 8]) -> [u8; 128]
-    ensures { result ≡ listed (λ p. get_or eight (p / 16) 0) 128 }
-{
-    let mut out = [0u8; 128];
-    for b in 0..8 {
-        for t in 0..16 {
-            out[16 * b + t] = eight[b];
-        }
-    }
-    out
-}
-
-// The two halves of a row, one from each by turns: a vector's own step.
+// The two halves of a row, one from each by turns: a vector's own step. (No plainer: a zip of the halves flattened is a step for each element, and after
+// a zip with `iter_mut` a proof knows nothing of what was written.)
 fn interleave(a: &[u8; 128]) -> [u8; 128]
     ensures { result ≡ listed (λ p. get_or a.now (p % 2 * 64 + p / 2) 0) 128 }
 {
@@ -70,43 +49,72 @@ pub fn turn(values: &[u8; 128]) -> [u8; 128]
     interleave(&thrice)
 }
 
-// The matrix spread over the columns, turned: for each of its four rows the first thresholds of all 128, then the second, and then the third.
-pub fn spread(regs: &[u8; 54], out: &mut [u8])
-    requires { length out.old ≡ 1536 }
+// The matrix spread over the columns, turned: for each of its four rows the first thresholds of all 128, then the second, and then the third. What
+// stands at a column is that of each of the sixteen tiles.
+pub fn spread(regs: &[u8; 54], out: &mut [u8; 1536])
     ensures { out.new ≡ spread_of regs.now }
 {
     for j in 0..12 {
-        let line = repeat(thresholds(regs, 6 + 12 * (j % 4) + j / 4));
-        for x in 0..128 {
-            out[128 * j + x] = line[x];
+        for b in 0..8 {
+            let at = 128 * j + 16 * b;
+            out[at..at + 16].fill(regs[6 + 12 * (j % 4) + 3 * (b % 4) + j / 4]);
         }
     }
 }
 
-// Adds the bits of one column more, the b-th of each of sixteen tiles, to the bytes of those before it: w is their weight. The columns are turned; their
-// thresholds stand from `at` on. The bytes are changed where they stand, so that they stay in registers from column to column.
-fn add_column(
-    values: &[u8; 128],
-    matrix: &[u8; 1536],
-    at: usize,
-    b: usize,
-    w: u8,
-    low: &mut [u8; 16],
-    high: &mut [u8; 16],
-)
-    requires at_bound { (at < 385) × (b < 8) × (w ≡ place_of (b + 1)) }
-    requires low_value { (low.old ≡ listed (low_bits values.now matrix.now at b) 16) × (high.old ≡ listed (high_bits values.now matrix.now at b) 16) }
-    ensures { (low.new ≡ listed (low_bits values.now matrix.now at (b + 1)) 16)
-        × (high.new ≡ listed (high_bits values.now matrix.now at (b + 1)) 16) }
+// Adds the bits of one column more, the b-th of each of sixteen tiles, to the bytes of those before it. The bytes are changed where they stand, so that
+// they stay in registers from column to column. (No plainer: after a zip with `iter_mut` a proof knows nothing of what was written.)
+fn add_column<R: Turned>(row: &R, b: usize, low: &mut [u8; 16], high: &mut [u8; 16])
+    requires b_bound { b < 8 }
+    requires low_value { (low.old ≡ listed (bits_of (R.low row.now) b) 16) × (high.old ≡ listed (bits_of (R.high row.now) b) 16) }
+    ensures { (low.new ≡ listed (bits_of (R.low row.now) (b + 1)) 16)
+        × (high.new ≡ listed (bits_of (R.high row.now) (b + 1)) 16) }
 {
+    let w = 128u8 >> b;
     for t in 0..16 {
-        let p = 16 * b + t;
-        let v = values[p];
-        let l = matrix[at + p];
-        let m = matrix[at + p + 512];
-        let h = matrix[at + p + 1024];
-        low[t] = low[t] + low_weight(v, l, m, h, w);
-        high[t] = high[t] + high_weight(v, l, m, h, w);
+        let (l, h) = row.weigh(16 * b + t, w);
+        low[t] = low[t] + l;
+        high[t] = high[t] + h;
+    }
+}
+
+// A row's bits as bytes, one of low bits and one of high bits for each of its sixteen tiles, the first pixel's the highest, into what is zero before.
+pub fn pack<R: Turned>(row: &R, low: &mut [u8; 16], high: &mut [u8; 16])
+    requires { (low.old ≡ listed (λ _. 0) 16) × (high.old ≡ listed (λ _. 0) 16) }
+    ensures { (low.new ≡ listed (bytes_of (R.low row.now)) 16)
+        × (high.new ≡ listed (bytes_of (R.high row.now)) 16) }
+{
+    for b in 0..8 {
+        add_column(row, b, low, high);
+    }
+}
+
+// A row of values and the thresholds of its columns, which stand from `at` on.
+#[derive(Clone, Copy)]
+struct Shaded<'a> {
+    values: &'a [u8; 128],
+    matrix: &'a [u8; 1536],
+    row: usize,
+}
+
+impl<'a> Turned for Shaded<'a> {
+    ghost low = { λ s p. turned_shade s.values.now s.matrix.now (128 * (s.row % 4)) p % 2 };
+
+    ghost high = { λ s p. turned_shade s.values.now s.matrix.now (128 * (s.row % 4)) p / 2 };
+
+    ghost bits = { λ s p. shade_bits s.values.now s.matrix.now (128 * (s.row % 4)) p };
+
+    // The tests are put so that each is a vector's own.
+    #[tactic(auto, unfolding(crate::specs::Aside::turned_shade))]
+    fn weigh(&self, p: usize, w: u8) -> (u8, u8) {
+        let at = 128 * (self.row % 4) + p;
+        let v = self.values[p];
+        let l = self.matrix[at];
+        let m = self.matrix[at + 512];
+        let h = self.matrix[at + 1024];
+        let low = either(v < l, w, either(h <= v, 0, either(m <= v, w, 0)));
+        let high = either(v < l, w, either(v < m, w, 0));
+        (low, high)
     }
 }
 
@@ -124,10 +132,10 @@ pub fn shade_row(
         × (high.new ≡ listed (high_of values.now regs.now row) 16) }
 {
     let turned = turn(values);
-    let at = 128 * (row % 4);
-    let mut w = 128u8;
-    for b in 0..8 {
-        add_column(&turned, matrix, at, b, w, low, high);
-        w = w / 2;
-    }
+    let shaded = Shaded {
+        values: &turned,
+        matrix: matrix,
+        row: row,
+    };
+    pack(&shaded, low, high);
 }

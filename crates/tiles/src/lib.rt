@@ -38,34 +38,18 @@ pub fn pair_at(t: usize, y: usize) -> usize
     16 * (16 * (y / 8) + t) + 2 * (y % 8)
 }
 
-// The registers as an array of their own, for whole rows.
-fn whole(regs: &[u8]) -> [u8; 54]
-    requires { length regs.now ≡ 54 }
-    ensures { result ≡ regs.now }
-{
-    let mut out = [0u8; 54];
-    for i in 0..54 {
-        out[i] = regs[i];
-    }
-    out
-}
-
-// Where the pixels from j on that stand in the same two bytes end, those to be put.
-fn part_end(j: usize, to: usize) -> usize
-    requires { (j < to) × (to ≤ 14336) }
-    ensures { (j < result) × (result ≤ to) × (result ≤ 8 * (j / 8) + 8) }
-{
-    let end = 8 * (j / 8) + 8;
-    if to < end {
-        return to;
-    }
-    end
-}
-
 // Puts the pixels from j to end, which stand in the same two bytes: these are read once, and stored once.
-fn put_part(ram: &mut [u8], store: &[u8], set: Setting, regs: &[u8], j: usize, end: usize)
-    requires j_lt_end { (j < end) × (end ≤ 14336) × (end ≤ 8 * (j / 8) + 8) × (8192 ≤ length ram.old) × (length store.now ≡ 16384) }
-    requires asked { Asked set regs.now × (length regs.now ≡ 54) }
+fn put_part(
+    ram: &mut [u8],
+    store: &[u8; 16384],
+    set: Setting,
+    regs: &[u8; 54],
+    j: usize,
+    end: usize,
+)
+    requires range { (j ≤ end) × (j < 14336) × (end ≤ 8 * (j / 8) + 8) }
+    requires ram_len { 8192 ≤ length ram.old }
+    requires asked { Asked set regs.now }
     ensures { ram.new ≡ pixels (byte_at store.now) regs.now j end ram.old }
 {
     let y = j / 128;
@@ -84,59 +68,21 @@ fn put_part(ram: &mut [u8], store: &[u8], set: Setting, regs: &[u8], j: usize, e
     ram[p] = high;
 }
 
-// Puts the pixels from j on that stand in the same two bytes, or whole rows where j begins one: the next to put.
-fn put_some(ram: &mut [u8], store: &[u8], set: Setting, regs: &[u8], j: usize, to: usize) -> usize
-    requires { (j < to) × (to ≤ 14336) × (8192 ≤ length ram.old) × (length store.now ≡ 16384) × (Asked set regs.now) × (length regs.now ≡ 54) }
-    ensures { (ram.new ≡ pixels (byte_at store.now) regs.now j result ram.old) × (j < result) × (result ≤ to) }
-{
-    if j % 128 == 0 {
-        let first = j / 128;
-        let end = to / 128;
-        if first < end {
-            // what rows are lent is made here, so that a tick of a few cycles puts none of it in memory
-            let taken = whole(regs);
-            put_rows(
-                ram,
-                PICTURE,
-                store,
-                Setting::of(&taken),
-                &taken,
-                first,
-                end - first,
-            );
-            return 128 * end;
-        }
-    }
-    let end = part_end(j, to);
-    put_part(ram, store, set, regs, j, end);
-    end
-}
-
-// Puts the pixels from..to of the picture, in order.
-pub fn put_pixels(ram: &mut [u8], store: &[u8], set: Setting, regs: &[u8], from: usize, to: usize)
-    requires { (from ≤ to) × (to ≤ 14336) × (8192 ≤ length ram.old) × (length store.now ≡ 16384) × (Asked set regs.now) × (length regs.now ≡ 54) }
-    ensures { ram.new ≡ pixels (byte_at store.now) regs.now from to ram.old }
-{
-    let mut j = from;
-    while j < to {
-        j = put_some(ram, store, set, regs, j, to);
-    }
-}
-
 // Puts a row of the picture whose first byte is out[at], two bytes a tile. What is carried moves on by a row; `matrix` is that of `regs`, spread.
 // The row's values are made in `values`, which is lent so that it is made once.
 fn put_line(
     out: &mut [u8],
     at: usize,
-    store: &[u8],
+    store: &[u8; 16384],
     set: Setting,
     regs: &[u8; 54],
     matrix: &[u8; 1536],
     y: usize,
-    carried: &mut [u8],
+    carried: &mut [u8; 128],
     values: &mut [u8; 128],
 )
-    requires at_in_bounds { (at + 3584 ≤ length out.old) × (length store.now ≡ 16384) × (y < 112) × (matrix.now ≡ spread_of regs.now) }
+    requires at_in_bounds { (at + 3584 ≤ length out.old) × (y < 112) }
+    requires matrix { matrix.now ≡ spread_of regs.now }
     requires asked { Asked set regs.now }
     requires carried { Carried (byte_at store.now) set (y + 8) carried.old }
     ensures { (out.new ≡ put_pairs (byte_at store.now) regs.now at (16 * y) 16 out.old)
@@ -158,13 +104,13 @@ fn put_line(
 fn put_rows(
     out: &mut [u8],
     at: usize,
-    store: &[u8],
+    store: &[u8; 16384],
     set: Setting,
     regs: &[u8; 54],
     first: usize,
     count: usize,
 )
-    requires at_in_bounds { (at + 3584 ≤ length out.old) × (length store.now ≡ 16384) × (first < 112) × (first + count ≤ 112) }
+    requires at_in_bounds { (at + 3584 ≤ length out.old) × (first < 112) × (first + count ≤ 112) }
     requires asked { Asked set regs.now }
     ensures { out.new ≡ put_pairs (byte_at store.now) regs.now at (16 * first) (16 * count) out.old }
 {
@@ -173,7 +119,7 @@ fn put_rows(
     let mut carried = [0u8; 128];
     rows::first_row(store, set, first + 8, &mut carried);
     let mut values = [0u8; 128];
-    for k in 0..count {
+    for y in first..first + count {
         put_line(
             out,
             at,
@@ -181,16 +127,59 @@ fn put_rows(
             set,
             regs,
             &matrix,
-            first + k,
+            y,
             &mut carried,
             &mut values,
         );
     }
 }
 
+// Puts the pixels from..to, two bytes at a time.
+fn put_parts(
+    ram: &mut [u8],
+    store: &[u8; 16384],
+    set: Setting,
+    regs: &[u8; 54],
+    from: usize,
+    to: usize,
+)
+    requires range { (from ≤ to) × (to ≤ 14336) }
+    requires ram_len { 8192 ≤ length ram.old }
+    requires asked { Asked set regs.now }
+    ensures { ram.new ≡ pixels (byte_at store.now) regs.now from to ram.old }
+{
+    for n in from / 8..to.div_ceil(8) {
+        put_part(ram, store, set, regs, from.max(8 * n), to.min(8 * n + 8));
+    }
+}
+
+// Puts the pixels from..to of the picture, in order: whole rows at a time where there are such.
+pub fn put_pixels(
+    ram: &mut [u8],
+    store: &[u8; 16384],
+    set: Setting,
+    regs: &[u8; 54],
+    from: usize,
+    to: usize,
+)
+    requires range { (from ≤ to) × (to ≤ 14336) }
+    requires ram_len { 8192 ≤ length ram.old }
+    requires asked { Asked set regs.now }
+    ensures { ram.new ≡ pixels (byte_at store.now) regs.now from to ram.old }
+{
+    let first = from.div_ceil(128);
+    let end = to / 128;
+    if first < end {
+        put_parts(ram, store, set, regs, from, 128 * first);
+        put_rows(ram, PICTURE, store, set, regs, first, end - first);
+        put_parts(ram, store, set, regs, 128 * end, to);
+    } else if from < to {
+        put_parts(ram, store, set, regs, from, to);
+    }
+}
+
 // The picture afresh, of a store of lit values.
-pub fn fill(store: &[u8], set: Setting, regs: &[u8; 54], out: &mut [u8])
-    requires store_len { (length store.now ≡ 16384) × (length out.old ≡ 3584) }
+pub fn fill(store: &[u8; 16384], set: Setting, regs: &[u8; 54], out: &mut [u8; 3584])
     requires asked { Asked set regs.now }
     ensures { out.new ≡ picture_of (byte_at store.now) regs.now }
 {

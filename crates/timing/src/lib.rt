@@ -12,7 +12,7 @@ ghost use Rattle.timing.specs.Registers.{all_zero};
 ghost use Rattle.timing.specs.Timing.{n_set, clocks, total_of};
 ghost use Rattle.timing.specs.Aside.{picture_from, done_by};
 
-use lighting::Setting;
+use lighting::{Setting, exposure_of};
 
 // Image and frame store: 128 * 128 bytes.
 pub const FRAME: usize = 16384;
@@ -31,18 +31,12 @@ pub const N_CLEAR: u32 = 512;
 pub const READING: u32 = 92;
 
 // Whole banks, at most so many; the count of banks must have exactly one bit set.
+#[tactic(auto, unfolding(crate::specs::Lent::banks_allowed))]
 fn banks_allowed(len: usize, size: usize, most: usize) -> bool
     requires { 0 < size }
     ensures { result ≡ banks_allowed size most len }
 {
-    if len % size != 0 {
-        return false;
-    }
-    let banks = len / size;
-    if most < banks {
-        return false;
-    }
-    usize::count_ones(banks) == 1
+    len % size == 0 && len / size <= most && (len / size).count_ones() == 1
 }
 
 pub fn rom_allowed(len: usize) -> bool
@@ -62,33 +56,21 @@ pub fn bank_place(number: u8, len: usize, size: usize) -> usize
     requires { (0 < size) × (ones (len / size) ≡ 1) × (len < 2000000) }
     ensures { result ≡ number % (len / size) * size }
 {
-    (number as usize & (len / size - 1)) * size
-}
-
-// A byte as a wider number, with its bound.
-pub fn wide(x: u8) -> u32
-    ensures { (result ≡ x) × (result < 256) }
-{
-    x as u32
+    (usize::from(number) & (len / size - 1)) * size
 }
 
 // Whether each of 54 registers is 0: their bits together, with no question for each, so that it becomes vector code.
-pub fn all_zero(regs: &[u8]) -> bool
-    requires { length regs.now ≡ 54 }
+pub fn all_zero(regs: &[u8; 54]) -> bool
     ensures { result ≡ all_zero regs.now }
 {
-    let mut bits: u8 = 0;
-    for i in 0..regs.len() {
-        bits = bits | regs[i];
-    }
-    bits == 0
+    regs.iter().fold(0, |bits, r| bits | r) == 0
 }
 
 // Cartridge cycles (PHI), and sensor clocks: two cycles make one clock.
-#[derive(Clone, Copy)]
+#[derive(Clone, Copy, Debug, PartialEq, Eq, PartialOrd, Ord)]
 pub struct Cycles(pub u32);
 
-#[derive(Clone, Copy)]
+#[derive(Clone, Copy, Debug, PartialEq, Eq, PartialOrd, Ord)]
 pub struct Clocks(pub u32);
 
 impl Cycles {
@@ -100,64 +82,48 @@ impl Cycles {
     }
 }
 
-// The exposure of the registers, with its bound.
-fn exposure(regs: &[u8]) -> u32
-    requires { length regs.now ≡ 54 }
-    ensures { (result ≡ exposure_of regs.now) × (result < 65536) }
-{
-    lighting::exposure_of(regs) as u32
-}
-
 // N, bit 7 of A001, is set.
-fn n_set(regs: &[u8]) -> bool
-    requires { length regs.now ≡ 54 }
+fn n_set(regs: &[u8; 54]) -> bool
     ensures { result ≡ n_set regs.now }
 {
     regs[1] / 128 % 2 == 1
 }
 
 // Total cycles of a capture with these registers taken.
-pub fn total(regs: &[u8]) -> Cycles
-    requires { length regs.now ≡ 54 }
+#[tactic(auto, unfolding(crate::specs::Timing::total_of))]
+pub fn total(regs: &[u8; 54]) -> Cycles
     ensures { (result.0 ≡ total_of regs.now) × (result.0 < 2000000) }
 {
-    let timed = BASE + 16 * exposure(regs);
-    if n_set(regs) {
-        return Cycles(timed);
-    }
-    Cycles(timed + N_CLEAR)
+    let added = if n_set(regs) { 0 } else { N_CLEAR };
+    Cycles(BASE + added + 16 * u32::from(exposure_of(regs)))
 }
 
 // The clock after which the picture's pixels begin: row 8 of the sensor, the seventh or the eighth after the first that is read.
-fn picture_from(regs: &[u8]) -> Clocks
-    requires { length regs.now ≡ 54 }
+#[tactic(auto, unfolding(crate::specs::Aside::picture_from, crate::specs::Timing::reading_from))]
+fn picture_from(regs: &[u8; 54]) -> Clocks
     ensures { (result.0 ≡ picture_from regs.now) × (result.0 < 1000000) }
 {
-    let reading = READING + 8 * exposure(regs);
-    if n_set(regs) {
-        return Clocks(reading + 7 * 128);
-    }
-    Clocks(reading + 8 * 128)
+    let rows = if n_set(regs) { 7 } else { 8 };
+    Clocks(READING + 8 * u32::from(exposure_of(regs)) + 128 * rows)
 }
 
 // How many of the picture's pixels are done after so many cycles, where they begin after clock `first`.
 fn done_by(first: Clocks, elapsed: Cycles) -> usize
     ensures { (result ≡ min (clocks elapsed.0 - first.0) 14336) × (result ≤ 14336) }
 {
-    let now = elapsed.clocks();
-    if now.0 < first.0 {
-        return 0;
-    }
-    let done = (now.0 - first.0) as usize;
-    if done < tiles::PIXELS {
-        return done;
-    }
-    tiles::PIXELS
+    (elapsed.clocks().0.saturating_sub(first.0) as usize).min(tiles::PIXELS)
 }
 
 // Writes what falls between two numbers of elapsed cycles of a capture, from a store of lit values.
-pub fn write_between(ram: &mut [u8], store: &[u8], regs: &[u8], elapsed: Cycles, then: Cycles)
-    requires { (elapsed.0 ≤ then.0) × (8192 ≤ length ram.old) × (length store.now ≡ 16384) × (length regs.now ≡ 54) }
+#[tactic(auto, unfolding(crate::specs::Aside::done_by))]
+pub fn write_between(
+    ram: &mut [u8],
+    store: &[u8; 16384],
+    regs: &[u8; 54],
+    elapsed: Cycles,
+    then: Cycles,
+)
+    requires { (elapsed.0 ≤ then.0) × (8192 ≤ length ram.old) }
     ensures { ram.new
         ≡ pixels (byte_at store.now) regs.now (done_by regs.now elapsed.0) (done_by regs.now then.0)
         ram.old }

@@ -1,10 +1,6 @@
 -- The invariants of `strips::add_column`. Assumes nothing.
-use Prim.Native.Nat.{◌-◌, ◌≤◌}
-use Rattle.strips.proofs.Columns.{Low, High}
+use Rattle.strips.proofs.Columns.{Next}
 use Rattle.strips.proofs.add_column.Given as goal
 
 abbrev pub invariant-loop-t : goal.invariant-loop-t
-invariant-loop-t l = (l.t ≤ 16) × Low l.values l.matrix l.at l.b l.t l.low × High l.values l.matrix l.at l.b l.t l.high
-
-abbrev pub decreases-loop-t : goal.decreases-loop-t
-decreases-loop-t l = 16 - l.t
+invariant-loop-t g l = let m = g.R.Turned in Next (m.low l.row) l.b l.t l.low × Next (m.high l.row) l.b l.t l.high

@@ -1,14 +1,8 @@
 -- The invariants of `tiles::put_line`. Assumes nothing.
-use mathlib.Core.Path.{◌≡◌}
-use Prim.Native.Nat.{◌-◌, ◌*◌, ◌≤◌}
-use lib.ListN.{length}
+use Rattle.std.proofs.Common.{◌≡◌, ◌*◌}
 use Rattle.lighting.specs.Light.{byte_at}
 use Rattle.tiles.specs.Aside.{put_pairs}
 use Rattle.tiles.proofs.put_line.Given as goal
 
 abbrev pub invariant-loop-t : goal.invariant-loop-t
-invariant-loop-t l =
-    (l.t ≤ 16) × (length l.out ≡ length l.initial.out) × (l.out ≡ put_pairs (byte_at l.store) l.regs l.at (16 * l.y) l.t l.initial.out)
-
-abbrev pub decreases-loop-t : goal.decreases-loop-t
-decreases-loop-t l = 16 - l.t
+invariant-loop-t l = l.out ≡ put_pairs (byte_at l.store) l.regs l.at (16 * l.y) l.t l.initial.out

@@ -1,37 +1,34 @@
--- `tiles::put_pixels` meets its contract. The invariant: the RAM is the pixels from `from` to j put into what it was. Assumes nothing.
-use Rattle.tiles.proofs.Run.{pixels_none, pixels_join}
+-- `tiles::put_pixels` meets its contract: whole rows are the pixels of theirs. Assumes nothing.
+use Rattle.std.proofs.Common.{ℕ, ◌<◌, Fits, w8, ◌≡◌, sym, ap, ◌∙◌, ◌+◌, ◌-◌, ◌*◌, ◌/◌, get_or, arith, rules}
 use Rattle.lighting.specs.Light.{byte_at}
 use Rattle.tiles.specs.Aside.{pixels}
-use native.Mathlib.Omega.{arith}
-use mathlib.Core.Path.{◌≡◌, refl, sym, ap, ◌∙◌}
+use Rattle.tiles.proofs.Run.{pixels_none, pixels_join}
+use Rattle.tiles.proofs.Pairs.{pairs_pixels}
 use Rattle.tiles.proofs.put_pixels.Goals as goal
 
-pub loop-j-init : goal.loop-j-init
-loop-j-init c = (omega arith, omega arith, refl, sym (pixels_none _ _ _ _))
-
-pub put_some-j-requires : goal.put_some-j-requires
-put_some-j-requires c =
-    let p = c.requires in
-    (omega arith, omega arith, omega arith, omega arith, p.4, p.5)
-
-pub loop-j-smaller : goal.loop-j-smaller
-loop-j-smaller c = omega arith
-
-pub loop-j-preserved : goal.loop-j-preserved
-loop-j-preserved c =
-    let l = c.loop-j in
+pub returns-then-first-end : goal.returns-then-first-end
+returns-then-first-end c =
     let a = c.args in
-    let s = c.put_some-j in (
-      omega arith,
-      omega arith,
-      s.auto.ram ∙ l.invariant.2,
-      s.ensures.0 ∙ ap (pixels (byte_at a.store.now) a.regs.now l.j s.result) l.invariant.3 ∙ pixels_join (byte_at a.store.now) a.regs.now a.from l.j s.result a.ram.now l.invariant.0 (omega arith),
-    )
+    let lit = byte_at a.store.now in
+    let regs = a.regs.now in
+    let first = c.div_ceil-first.result in
+    let end = a.to / 128 in
+    let before = c.put_parts.new.ram in
+    let rows = c.put_rows.new.out in
+    let bytes : (i : ℕ) → get_or before i 0 < 256 = λ i. let k : Fits w8 (get_or before i 0) = search rules in omega arith in
+    let e : 8 * (16 * first) ≡ 128 * first = omega arith in
+    let f : 8 * (16 * first + 16 * (end - first)) ≡ 128 * end = omega arith in
+    let all : rows ≡ pixels lit regs (128 * first) (128 * end) before =
+    c.put_rows.ensures ∙ rw (e, f) at (pairs_pixels lit regs before (omega arith) bytes (16 * first) (16 * (end - first)) (omega arith)) in
+    let two : rows ≡ pixels lit regs a.from (128 * end) a.ram.now =
+    all
+    ∙ ap (pixels lit regs (128 * first) (128 * end)) c.put_parts.ensures
+    ∙ pixels_join lit regs a.from (128 * first) (128 * end) a.ram.now (omega arith) (omega arith) in
+    c.put_parts-then-first-end.ensures
+    ∙ ap (pixels lit regs (128 * end) a.to) two
+    ∙ pixels_join lit regs a.from (128 * end) a.to a.ram.now (omega arith) (omega arith)
 
-pub shape_of-ram : goal.shape_of-ram
-shape_of-ram c = omega arith
-
-pub returns : goal.returns
-returns c =
-    let e : c.loop-j.j ≡ c.args.to = omega arith in
-    rw e at c.loop-j.invariant.3
+pub returns-else-from-to : goal.returns-else-from-to
+returns-else-from-to c =
+    let e : c.args.from ≡ c.args.to = omega arith in
+    rw e (sym (pixels_none _ _ _ _))

@@ -1,0 +1,8 @@
+-- The invariants of `tiles::put_parts`. Assumes nothing.
+use Rattle.std.proofs.Common.{◌≡◌, ◌*◌, min, max}
+use Rattle.lighting.specs.Light.{byte_at}
+use Rattle.tiles.specs.Aside.{pixels}
+use Rattle.tiles.proofs.put_parts.Given as goal
+
+abbrev pub invariant-loop-n : goal.invariant-loop-n
+invariant-loop-n l = l.ram ≡ pixels (byte_at l.store) l.regs l.from (min l.to (max l.from (8 * l.n))) l.initial.ram
