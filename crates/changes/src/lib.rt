@@ -16,60 +16,66 @@ pub struct Change {
 }
 
 // Whether a place of the RAM is in the picture area.
+#[tactic(auto, unfolding(history::specs::Seen::in_area))]
 pub fn in_area(place: u32) -> bool
     ensures { result ≡ in_area place }
 {
-    if place < 0x100 {
-        return false;
-    }
-    place <= 0xEFF
+    (0x100..=0xEFF).contains(&place)
 }
 
-// Whether a byte outside the picture area is not what it was.
-fn is_other(first: &[u8], ram: &[u8], p: usize) -> bool
-    requires { (length first.now ≡ length ram.now) × (length ram.now ≤ 131072) × (p < length ram.now) }
-    ensures { result ≡ differs first.now ram.now p }
-{
-    if in_area(p as u32) {
-        return false;
-    }
-    first[p] != ram[p]
+// A RAM beside what it was at first: of one size, and of sixteen banks at most.
+#[derive(Clone, Copy)]
+struct Compared<'a> {
+    first: &'a [u8],
+    ram: &'a [u8],
+    ghost one_size: { length first.now ≡ length ram.now },
+    ghost banks: { length ram.now ≤ 131072 },
 }
 
-// Where the first stretch from a place on begins, at the RAM's end where there is none.
-fn stretch_begin(first: &[u8], ram: &[u8], from: usize) -> usize
-    requires { (length first.now ≡ length ram.now) × (length ram.now ≤ 131072) × (from ≤ length ram.now) }
-    ensures { result ≡ begins first.now ram.now from }
-{
-    let mut p = from;
-    while p < ram.len() {
-        if is_other(first, ram, p) {
-            return p;
-        }
-        p += 1;
+impl<'a> Compared<'a> {
+    // Whether a byte outside the picture area is not what it was.
+    #[tactic(auto, unfolding(crate::specs::Changes::differs))]
+    fn is_other(&self, p: usize) -> bool
+        requires { p < length self.now.ram.now }
+        ensures { result ≡ differs self.now.first.now self.now.ram.now p }
+    {
+        !in_area(p as u32) && self.first[p] != self.ram[p]
     }
-    p
-}
 
-// The place after the stretch that begins at a place: it ends before a byte that does not differ, and with its bank.
-fn stretch_end(first: &[u8], ram: &[u8], from: usize) -> usize
-    requires { (length first.now ≡ length ram.now) × (length ram.now ≤ 131072) × (from ≤ length ram.now) }
-    ensures { result ≡ reach first.now ram.now (length ram.now - from) from }
-{
-    let mut p = from;
-    while p < ram.len() {
-        if !is_other(first, ram, p) {
-            return p;
+    // Where the first stretch from a place on begins, at the RAM's end where there is none.
+    #[tactic(auto, using(crate::proofs::Stretches::seek_none, crate::proofs::Stretches::seek_here, crate::proofs::Stretches::seek_past))]
+    fn begin(&self, from: usize) -> usize
+        requires { from ≤ length self.now.ram.now }
+        ensures { result ≡ begins self.now.first.now self.now.ram.now from }
+    {
+        for p in from..self.ram.len() {
+            if self.is_other(p) {
+                return p;
+            }
         }
-        p += 1;
-        if p % 8192 == 0 {
-            return p;
-        }
+        self.ram.len()
     }
-    p
+
+    // The place after the stretch that begins at a place: it ends before a byte that does not differ, and with its bank.
+    #[tactic(auto, using(crate::proofs::Stretches::reach_none, crate::proofs::Stretches::reach_here, crate::proofs::Stretches::reach_bank, crate::proofs::Stretches::reach_past))]
+    fn end(&self, from: usize) -> usize
+        requires { from ≤ length self.now.ram.now }
+        ensures { result ≡ reach self.now.first.now self.now.ram.now (length self.now.ram.now - from) from }
+    {
+        for p in from..self.ram.len() {
+            if !self.is_other(p) {
+                return p;
+            }
+            if (p + 1) % 8192 == 0 {
+                return p + 1;
+            }
+        }
+        self.ram.len()
+    }
 }
 
 // Puts the event of a stretch, or that nothing changed, and returns how many bytes that is.
+#[tactic(auto, using(crate::proofs::Stretches::put_nothing))]
 fn put_stretch(
     line: u64,
     size: usize,
@@ -91,16 +97,15 @@ fn put_stretch(
 }
 
 // Puts the event of the first stretch from a place on, or that nothing changed, at the start of a buffer.
+#[tactic(auto, using(crate::proofs::Stretches::begins_within, crate::proofs::Stretches::ends_within, crate::proofs::Stretches::stretch_some), unfolding(crate::specs::Changes::change_text))]
 pub fn change_put(first: &[u8], ram: &[u8], from: usize, line: u64, out: &mut [u8]) -> Change
     requires { (256 ≤ length out.old) × (length first.now ≡ length ram.now) × (length ram.now ≤ 131072) × (from ≤ length ram.now) }
     ensures put { Put out.old 0 (change_text line first.now ram.now from) 256 out.new result.written }
     ensures next_value { result.next ≡ ends first.now ram.now from }
 {
-    let begin = stretch_begin(first, ram, from);
-    let next = stretch_end(first, ram, begin);
+    let both = Compared { first, ram };
+    let begin = both.begin(from);
+    let next = both.end(begin);
     let written = put_stretch(line, ram.len(), from, begin, next, out);
-    Change {
-        next: next,
-        written: written,
-    }
+    Change { next, written }
 }

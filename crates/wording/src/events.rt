@@ -58,7 +58,7 @@ pub fn put_start(
     put_taken(out, a, image, row, registers)
 }
 
-// An event that has a serial and the cycles run so far.
+// An event that has a serial and the cycles run so far: the four below are this one, each with its own word and text.
 fn put_mark(out: &mut [u8], at: usize, word: &[u8], line: u64, serial: u16, cycles: u64) -> usize
     requires { (at + 256 ≤ length out.old) × (length word.now ≤ 24) }
     ensures { Put out.old at (mark_text word.now line serial cycles) 256 out.new result }
@@ -69,6 +69,7 @@ fn put_mark(out: &mut [u8], at: usize, word: &[u8], line: u64, serial: u16, cycl
 }
 
 // A stop.
+#[tactic(auto, unfolding(crate::specs::Events::stop_text))]
 pub fn put_stop(out: &mut [u8], at: usize, line: u64, serial: u16, cycles: u64) -> usize
     requires { at + 256 ≤ length out.old }
     ensures { Put out.old at (stop_text line serial cycles) 256 out.new result }
@@ -77,6 +78,7 @@ pub fn put_stop(out: &mut [u8], at: usize, line: u64, serial: u16, cycles: u64) 
 }
 
 // A resume.
+#[tactic(auto, unfolding(crate::specs::Events::resume_text))]
 pub fn put_resume(out: &mut [u8], at: usize, line: u64, serial: u16, cycles: u64) -> usize
     requires { at + 256 ≤ length out.old }
     ensures { Put out.old at (resume_text line serial cycles) 256 out.new result }
@@ -85,6 +87,7 @@ pub fn put_resume(out: &mut [u8], at: usize, line: u64, serial: u16, cycles: u64
 }
 
 // A capture that a reset dropped.
+#[tactic(auto, unfolding(crate::specs::Events::dropped_text))]
 pub fn put_dropped(out: &mut [u8], at: usize, line: u64, serial: u16, cycles: u64) -> usize
     requires { at + 256 ≤ length out.old }
     ensures { Put out.old at (dropped_text line serial cycles) 256 out.new result }
@@ -93,6 +96,7 @@ pub fn put_dropped(out: &mut [u8], at: usize, line: u64, serial: u16, cycles: u6
 }
 
 // A capture that is still held.
+#[tactic(auto, unfolding(crate::specs::Events::held_text))]
 pub fn put_held(out: &mut [u8], at: usize, line: u64, serial: u16, cycles: u64) -> usize
     requires { at + 256 ≤ length out.old }
     ensures { Put out.old at (held_text line serial cycles) 256 out.new result }
@@ -101,6 +105,7 @@ pub fn put_held(out: &mut [u8], at: usize, line: u64, serial: u16, cycles: u64) 
 }
 
 // The bank of a place, after the area that it is in.
+#[tactic(auto, using(crate::proofs::Puts::put_within))]
 fn put_bank(out: &mut [u8], at: usize, inside: bool, bank: u32) -> usize
     requires { at + 20 ≤ length out.old }
     ensures { Put out.old at (pick inside inside_word outside_word ++ hex_text 1 bank) 20 out.new result }

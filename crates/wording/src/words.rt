@@ -11,28 +11,23 @@ pub(crate) fn put_word(out: &mut [u8], at: usize, word: &[u8]) -> usize
     requires { at + length word.now ≤ length out.old }
     ensures { Put out.old at word.now (length word.now) out.new result }
 {
-    let mut i = 0;
-    while i < word.len() {
-        out[at + i] = word[i];
-        i += 1;
-    }
-    at + i
+    let end = at + word.len();
+    out[at..end].copy_from_slice(word);
+    end
 }
 
 // How many decimal digits a number has, of so many at most.
 fn count_digits(most: usize, v: u64) -> usize
     ensures { (result ≡ count_in most v) × (result ≤ most) }
 {
-    let mut n = 0;
     let mut rest = v;
-    while n < most {
-        n += 1;
+    for n in 0..most {
         if rest < 10 {
-            return n;
+            return n + 1;
         }
         rest /= 10;
     }
-    n
+    most
 }
 
 // Puts so many decimal digits of a number into a buffer, the last digit first.
@@ -40,10 +35,8 @@ fn put_decimal(out: &mut [u8], at: usize, digits: usize, v: u64)
     requires { at + digits ≤ length out.old }
     ensures { out.new ≡ placed out.old at (digits_in digits v) }
 {
-    let mut k = digits;
     let mut rest = v;
-    while 0 < k {
-        k -= 1;
+    for k in (0..digits).rev() {
         out[at + k] = b'0' + (rest % 10) as u8;
         rest /= 10;
     }

@@ -1,9 +1,19 @@
--- `crc::eight` meets its contract: eight steps. Assumes nothing.
-use mathlib.Core.Path.{ap, ◌∙◌}
+-- `crc::eight` meets its contract: the invariant, that the register is that after the bits passed. Assumes nothing.
+use mathlib.Core.Path.{◌≡◌, refl, ap, ◌∙◌}
+use Prim.Native.Nat.{ℕ}
+use native.Mathlib.Numerals.{add-one}
+use native.Mathlib.Omega.{arith}
 use Rattle.laws.specs.Iter.{iter}
 use Rattle.crc.specs.Crc.{bit_step}
 use Rattle.crc.proofs.eight.Goals as goal
 
-pub returns : goal.returns
+pub loop-init : goal.loop-init
 unfolding iter
-returns c = c.bit-8.ensures ∙ ap bit_step (c.bit-7.ensures ∙ ap bit_step (c.bit-6.ensures ∙ ap bit_step (c.bit-5.ensures ∙ ap bit_step (c.bit-4.ensures ∙ ap bit_step (c.bit-3.ensures ∙ ap bit_step (c.bit-2.ensures ∙ ap bit_step c.bit.ensures))))))
+loop-init c = refl
+
+pub loop-preserved : goal.loop-preserved
+unfolding iter
+loop-preserved c = rw add-one (c.bit-c.ensures ∙ ap bit_step c.loop.invariant)
+
+pub returns : goal.returns
+returns c = let n : c.loop.counter ≡ 8 = omega arith in c.loop.invariant ∙ ap (λ (k : ℕ). iter bit_step k c.args.c) n

@@ -1,17 +1,26 @@
--- `crc::fill` meets its contract: the invariant, that the tables before the next are made. Assumes nothing.
-use mathlib.Core.Path.{refl}
+-- `crc::fill` meets its contract: the invariant, that the tables before the next are made, and how far the bits of a byte are. Assumes nothing.
+use borrow.Author.Rules.{rules}
+use mathlib.Core.Path.{◌≡◌}
+use Prim.Native.Nat.{ℕ, ◌+◌, ◌*◌, ◌<◌}
 use native.Mathlib.Omega.{arith}
-use Rattle.crc.proofs.Ahead.{built_none, built_to}
+use lib.ListN.{get_or}
+use Rattle.laws.specs.Iter.{iter}
+use Rattle.crc.specs.Crc.{bit_step}
+use Rattle.crc.proofs.Ahead.{bits_none, bits_next, first_none, first_more, first_to}
 use Rattle.crc.proofs.fill.Goals as goal
 
-pub loop-k-init : goal.loop-k-init
-loop-k-init c = (omega arith, refl, built_none refl)
+pub loop-table-init : goal.loop-table-init
+loop-table-init c = (bits_none, first_none)
 
-pub add_table-requires : goal.add_table-requires
-add_table-requires c = record { built = c.loop-k.invariant.2; k_bound = (omega arith, omega arith) }
-
-pub loop-k-preserved : goal.loop-k-preserved
-loop-k-preserved c = (omega arith, omega arith, built_to c.add_table.ensures (omega arith))
+pub loop-table-preserved : goal.loop-table-preserved
+loop-table-preserved c =
+    let l = c.loop-table in
+    let i = l.table-index in
+    let r = c.map-bits.ensures.items in
+    let moved : (j : ℕ) → j < 8 → get_or c.map-bits.result j 0 ≡ iter bit_step 8 (get_or l.bits j 0) = λ j h. let k = r.at j 0 0 h in let z = k.2 in search rules in (
+      λ j h. bits_next (8 * i) (8 * (i + 1)) j _ _ (omega arith) (l.invariant.0 j h) (moved j h),
+      first_more l.invariant.1 (omega arith) (c.fill_table.ensures i (λ j h. bits_next (8 * i) (8 + 8 * i) j _ _ (omega arith) (l.invariant.0 j h) (moved j h))),
+    )
 
 pub returns : goal.returns
-returns c = built_to c.loop-k.invariant.2 (omega arith)
+returns c = first_to c.loop-table.invariant.1 (omega arith)

@@ -1,11 +1,16 @@
 -- `crc::run_all` meets its contract: the pieces, and the bytes after them. Assumes nothing.
-use Prim.Native.Nat.{◌*◌, ◌/◌}
-use lib.ListN.{length}
-use Rattle.crc.proofs.Steps.{over_rest}
+use mathlib.Core.Path.{ap, ap₂, ◌∙◌}
+use native.Mathlib.Omega.{arith}
+use lib.Seq.{take_all}
+use Rattle.std.specs.List.{fold}
+use Rattle.crc.specs.Crc.{over}
+use Rattle.crc.proofs.Steps.{over_all}
 use Rattle.crc.proofs.run_all.Goals as goal
 
 pub returns : goal.returns
-returns c =
-    let a = c.args in
-    let bytes = a.bytes.now in
-    over_rest a.start (length bytes / 16 * 16) c.pieces-c.result _ bytes c.pieces-c.ensures c.run.ensures
+returns g c =
+    let start = c.args.start in
+    let cut = c.as_chunks in
+    let l = c.loop-s in
+    let pieces = l.invariant ∙ ap (fold over start) (take_all l.s-index cut.result.0.now (omega arith) ∙ cut.ensures.front) in
+    over_all g.row.N start _ c.args.bytes.now (omega arith) (c.run.ensures ∙ ap₂ over pieces cut.ensures.back)

@@ -1,34 +1,22 @@
--- `wording::words::put_word` meets its contract: the invariant is the buffer with the bytes of the word so far. Assumes nothing.
-use mathlib.Core.Path.{refl, sym, ap, ◌∙◌}
-use Prim.Native.Nat.{◌+◌}
+-- `wording::words::put_word` meets its contract: the bytes from the place on are those of the word. Assumes nothing.
+use mathlib.Core.Path.{◌≡◌, refl, ap, ap₂, ◌∙◌}
+use mathlib.Core.List.{List, ◌++◌}
+use Prim.Native.Nat.{ℕ, ◌+◌, ◌-◌}
 use native.Mathlib.Omega.{arith}
-use lib.ListN.{get_or, set, length-set}
-use lib.Seq.{take_all}
+use lib.ListN.{length, take, drop}
+use lib.Seq.{drop-drop}
 use Rattle.lines.specs.Hex.{placed}
-use Rattle.lines.proofs.Placed.{placed_none, placed_byte_lem}
 use Rattle.wording.proofs.words.put_word.Goals as goal
 
-pub loop-i-init : goal.loop-i-init
-loop-i-init c = (omega arith, refl, sym (placed_none _ _))
-
-pub loop-i-preserved : goal.loop-i-preserved
-loop-i-preserved c =
-    let a = c.args in
-    let l = c.loop-i in (
-      omega arith,
-      simp length-set l.invariant.1,
-      ap (λ o. set o (a.at + l.i) (get_or a.word.now l.i 0)) l.invariant.2 ∙ placed_byte_lem a.out.now a.at a.word.now l.i (omega arith) (omega arith),
-    )
-
-pub shape_of-out : goal.shape_of-out
-shape_of-out c = c.loop-i.invariant.1
-
 pub returns : goal.returns
+unfolding placed
 returns c =
-    let a = c.args in
-    let l = c.loop-i in
+    let at = c.args.at in
+    let out = c.args.out.now in
+    let n = at + length c.args.word.now - at in
+    let e : at + n ≡ at + length c.args.word.now = omega arith in
     record {
-      text = l.invariant.2 ∙ ap (placed a.out.now a.at) (take_all l.i a.word.now (omega arith));
-      end = omega arith;
+      text = ap₂ (λ (w r : List ℕ). take at out ++ (w ++ r)) c.copy_from_slice.ensures.after (drop-drop n at out ∙ ap (λ (k : ℕ). drop k out) e);
+      end = refl;
       few = omega arith;
     }
