@@ -1,7 +1,7 @@
 // Lines of a piece, read where they stand: where one ends; reads, writes and ticks one after the other, whose kind says where their LF is to be.
 #![tactic(auto)]
 
-ghost use Rattle.std.specs.Prelude.{◌≡◌, true, ◌+◌, ◌≤◌, ◌<◌, length};
+ghost use Rattle.std.specs.Prelude.{◌≡◌, true, ◌+◌, ◌≤◌, ◌<◌, length, nat_eq, position};
 ghost use Rattle.layout.specs.Layout.{is_record, decoded};
 ghost use Rattle.lines.specs.Kinds.{is_malformed};
 ghost use Rattle.session.specs.Session.{world};
@@ -21,6 +21,13 @@ pub struct Place {
     pub at: usize,
 }
 
+// Where the first LF is, if there is one.
+fn first_lf(bytes: &[u8]) -> Option<usize>
+    ensures { result ≡ position (λ b. nat_eq b 10) bytes.now }
+{
+    bytes.iter().position(|b| *b == 0x0A)
+}
+
 // Where the line that begins at a place of a piece ends: at its LF, or at the piece's end. Eight bytes are looked at in a row, as long as there are so many:
 // so the compiler unrolls the loop, which `position` alone does not let it (docs/DECISIONS.md, the end of a line).
 pub fn line_end(piece: &[u8], from: usize) -> usize
@@ -36,7 +43,7 @@ pub fn line_end(piece: &[u8], from: usize) -> usize
         }
         i += 8;
     }
-    match piece[i..].iter().position(|b| *b == 0x0A) {
+    match first_lf(&piece[i..]) {
         Some(k) => i + k,
         None => piece.len(),
     }
