@@ -24,7 +24,8 @@ use Rattle.cartridge.specs.Calls.{read_rows, read_means, write_rows, write_means
 use Rattle.cartridge.proofs.Refusals.{read_refuses, write_refuses}
 use Rattle.history.specs.History.{Call, reset, read, write, tick, inspect, leaves, answers}
 use Rattle.history.specs.History.{World as Found}
-use Rattle.history.specs.Seen.{is_reset, start_seen, end_seen, goes_to, goes_in, lands_seen, byte_in}
+use Rattle.history.specs.Seen as seen
+use Rattle.history.specs.Seen.{start_seen, end_seen, goes_to, goes_in, lands_seen, byte_in}
 use Rattle.lines.specs.declared.line.Frame.{Frame}
 use Rattle.lines.specs.declared.line.Frame.TheVariants.{Reset, Read, Write, Tick, Row, Malformed}
 use Rattle.lines.specs.Line.{frame_of}
@@ -35,17 +36,17 @@ use Rattle.session.specs.Answer.{number_said}
 use Rattle.session.specs.Session.{World, row_image, frame_step, step_of}
 use Rattle.session.specs.Aside.{ran_in, ran_of, Carried}
 use Rattle.session.proofs.Six.{said_number, write_said}
-use Rattle.events.specs.declared.sight.Sight.{Sight}
-use Rattle.events.specs.declared.sight.Asks.{Asks}
+use Rattle.std.proofs.Common.{Option, Some, None}
 use Rattle.events.specs.declared.event.Kind.{Kind}
 use Rattle.events.specs.declared.event.Kind.TheVariants as kinds
 use Rattle.events.specs.declared.event.Facts.{Facts}
+use Rattle.events.specs.declared.event.Step.{Step}
 use Rattle.events.specs.Book.{noted, one_more, lines}
 use Rattle.events.specs.Event.{Event, found, call_of, stop_seen, resume_seen, drop_seen, place_of, write_seen, cycles_of, seen_of, event_of}
 use Rattle.events.specs.Entry.{event_text, event_counted}
-use Rattle.auditing.specs.Line.{is_malformed, is_row, line_counted, audit_of}
-use Rattle.events.specs.Aside.{sight_of, goes_at, asked, kind_by, kind_of, facts_of, event_by, line_by}
-use Rattle.auditing.specs.Aside.{is_quiet, Entered, Audits}
+use Rattle.auditing.specs.Line.{line_counted, audit_of}
+use Rattle.events.specs.Aside.{takes_writes, step_by, is_reset, landed_by, kind_by, kind_of, kind_in, facts_of, event_by}
+use Rattle.auditing.specs.Aside.{Entered, Audits}
 
 -- ---- what a frame leaves is what its call leaves
 
@@ -61,10 +62,10 @@ frame_leaves rom line w Malformed = refl
 -- ---- what is seen of a call, by its kind
 
 module _ (b image ram regs : List ℕ) (f : Facts) where
-  abbrev of : Kind → Event
+  abbrev of : Option Kind → Event
   of k = event_by b image ram regs f k
 
-  kind_event : (s e d l t r : Bool) → pick s (of kinds.Start) (pick e (of kinds.End) (pick d (of kinds.Drop) (pick l (of kinds.Land) (pick t (of kinds.Stop) (pick r (of kinds.Resume) (of kinds.Nothing)))))) ≡ of (kind_by s e d l t r)
+  kind_event : (s e d l t r : Bool) → pick s (of (Some kinds.Start)) (pick e (of (Some kinds.End)) (pick d (of (Some kinds.Drop)) (pick l (of (Some kinds.Land)) (pick t (of (Some kinds.Stop)) (pick r (of (Some kinds.Resume)) (of None)))))) ≡ of (kind_by s e d l t r)
   kind_event true e d l t r = refl
   kind_event false true d l t r = refl
   kind_event false false true l t r = refl
@@ -93,13 +94,13 @@ seen_kind b image w c = kind_event b image (leaves w c).ram (leaves w c).state.t
 -- ---- a frame's event, by what is looked at
 
 -- a write that lands
-goes_same : (c : Controller) (ram : List ℕ) (a : ℕ) → goes_at c a ≡ goes_to c ram a (ram_place c ram a)
+goes_same : (c : Controller) (ram : List ℕ) (a : ℕ) → (not (ltb a 0x8000) && takes_writes c) ≡ goes_to c ram a (ram_place c ram a)
 unfolding goes_to
 goes_same c ram a =
     sym (ap (λ (t : Bool). not (ltb a 0x8000) && (not (registers_on c) && t)) (ap (λ (t : Bool). ram_writable c && t) (eq-eqb (ram_place c ram a) (ram_place c ram a) refl) ∙ and-true (ram_writable c)))
 
 write_lands : (w : World) (a v number : ℕ) → number ≡ (write_means w.state w.ram w.store w.image a v).number
-    → (goes_at w.state a && eqb number 0) ≡ lands_seen (found w) (write w.image a v) (ram_place w.state w.ram a)
+    → landed_by (Write a v) (takes_writes w.state) number ≡ lands_seen (found w) (write w.image a v) (ram_place w.state w.ram a)
 unfolding lands_seen goes_in answers
 write_lands w a v number e = λ i. goes_same w.state w.ram a i && eqb (e i) 0
 
@@ -107,54 +108,49 @@ no_start_lem : (h : Bool) → (not h && h) ≡ false
 no_start_lem true = refl
 no_start_lem false = refl
 
--- what is said of a line, from the world before it and the one after it
-abbrev pub shown : List ℕ → World → World → Frame → ℕ → Bool → Event
-shown b w w' f v lands =
-    event_by b w'.image w'.ram w'.state.taken (facts_of (sight_of w.state) w'.state.started (asked w.state f) (length w.ram) v)
-    (kind_of w.state.held (running w.state) w'.state.held (running w'.state) (asked w.state f).reset lands)
+-- a line that was carried out, from the world before it and the one after it
+abbrev pub stepped : World → World → Frame → ℕ → ℕ → Step
+stepped w w' f number v = step_by f w.state w'.state (length w.ram) number v
+
+-- what is said of it, where a write landed or not
+abbrev pub shown : List ℕ → World → World → Frame → ℕ → ℕ → Bool → Event
+shown b w w' f number v lands =
+    event_by b w'.image w'.ram w'.state.taken (facts_of (stepped w w' f number v))
+    (kind_of w.state.held (running w.state) w'.state.held (running w'.state) (is_reset f) lands)
 
 module _ (rom line b : List ℕ) (w : World) (v number : ℕ) where
   frame_event : (f : Frame) → number ≡ number_said (frame_step rom line w f).text → ran_in f v ≡ ran_of w f
-      → shown b w (frame_step rom line w f).world f v ((asked w.state f).goes && eqb number 0) ≡ event_of rom b w f
-  unfolding call_of leaves frame_step asked start_seen end_seen drop_seen write_seen stop_seen resume_seen lands_seen goes_in is_reset place_of byte_in answers ran_in ran_of
+      → shown b w (frame_step rom line w f).world f number v (landed_by f (takes_writes w.state) number) ≡ event_of rom b w f
+  unfolding call_of leaves frame_step start_seen end_seen drop_seen write_seen stop_seen resume_seen lands_seen goes_in seen.is_reset place_of byte_in answers ran_in ran_of
   frame_event Reset n r = sym (seen_kind b w.image (found w) reset)
   frame_event (Read a) n r = sym (seen_kind b w.image (found w) (read rom a))
   frame_event (Write a x) n r =
-      ap (shown b w (frame_step rom line w (Write a x)).world (Write a x) v) (write_lands w a x number (n ∙ write_said rom line w a x))
+      ap (shown b w (frame_step rom line w (Write a x)).world (Write a x) number v) (write_lands w a x number (n ∙ write_said rom line w a x))
       ∙ sym (seen_kind b w.image (found w) (write w.image a x))
   frame_event (Tick k) n r =
-      ap (λ (x : ℕ). shown b w (frame_step rom line w (Tick k)).world (Tick k) x false) r
+      ap (λ (x : ℕ). shown b w (frame_step rom line w (Tick k)).world (Tick k) number x false) r
       ∙ sym (seen_kind b w.image (found w) (tick k))
   frame_event (Row y) n r =
       let c = w.state in
-      let f = facts_of (sight_of c) c.started (asked c (Row y)) (length w.ram) v in
-      let k : Bool → Kind = λ s. kind_by s (c.held && (true && not c.held)) (c.held && false) (c.held && false) (running c && (c.held && not (running c))) (c.held && (not (running c) && running c)) in
+      let f = facts_of (step_by (Row y) c c (length w.ram) number v) in
+      let k : Bool → Option Kind = λ s. kind_by s (c.held && (true && not c.held)) (c.held && false) (c.held && false) (running c && (c.held && not (running c))) (c.held && (not (running c) && running c)) in
       ap (λ (s : Bool). event_by b (row_image line w.image y) w.ram c.taken f (k s)) (no_start_lem c.held)
       ∙ image_out b w.image w.ram c.taken f (row_image line w.image y) (c.held && (true && not c.held)) (c.held && false) (c.held && false) (running c && (c.held && not (running c))) (c.held && (not (running c) && running c))
       ∙ ap (λ (s : Bool). event_by b w.image w.ram c.taken f (k s)) (sym (no_start_lem c.held))
       ∙ sym (seen_kind b w.image (found w) inspect)
   frame_event Malformed n r = sym (seen_kind b w.image (found w) inspect)
 
-  line_same : (f : Frame) → line_by b (asked w.state f).malformed (asked w.state f).row number ≡ line_counted b f number
-  unfolding line_counted is_malformed is_row asked
-  line_same Reset = refl
-  line_same (Read a) = refl
-  line_same (Write a x) = refl
-  line_same (Tick n) = refl
-  line_same (Row y) = refl
-  line_same Malformed = refl
-
 -- ---- an end is a tick's that is not refused
 
 -- whether a kind is an end
-is_end : Kind → Bool
-is_end kinds.Nothing = false
-is_end kinds.Start = false
-is_end kinds.End = true
-is_end kinds.Drop = false
-is_end kinds.Land = false
-is_end kinds.Stop = false
-is_end kinds.Resume = false
+is_end : Option Kind → Bool
+is_end None = false
+is_end (Some kinds.Start) = false
+is_end (Some kinds.End) = true
+is_end (Some kinds.Drop) = false
+is_end (Some kinds.Land) = false
+is_end (Some kinds.Stop) = false
+is_end (Some kinds.Resume) = false
 
 kind_end : (s e d l t r : Bool) → is_end (kind_by s e d l t r) ≡ true → e ≡ true
 unfolding is_end
@@ -214,9 +210,9 @@ tick_allowed c ram store n h = by_number (lowest (tick_rows c ram store)) refl
         rw ((tick_refuses c ram store n).does e) (rw k.long f.ram_fits)
     by_number (suc k) e = absurd (stays c.held (tick_means c ram store n).state.held false (λ t. rw ((tick_refuses c ram store n).kept k e) t) h)
 
-frame_end : (rom line : List ℕ) (w : World) (f : Frame) → (w.state.held && (not (asked w.state f).reset && not (frame_step rom line w f).world.state.held)) ≡ true
+frame_end : (rom line : List ℕ) (w : World) (f : Frame) → (w.state.held && (not (is_reset f) && not (frame_step rom line w f).world.state.held)) ≡ true
     → ram_allowed (length (frame_step rom line w f).world.ram) ≡ true
-unfolding frame_step asked
+unfolding frame_step
 frame_end rom line w Reset h = not_both (both_right w.state.held false h) refl
 frame_end rom line w (Read a) h = absurd (stays w.state.held _ false (read_held w.state rom w.ram a) h)
 frame_end rom line w (Write a v) h = absurd (stays w.state.held _ false (write_held w.state w.ram w.store w.image a v) h)
@@ -227,11 +223,7 @@ frame_end rom line w Malformed h = absurd (stays w.state.held w.state.held false
 -- ---- a line
 
 module _ (rom line b : List ℕ) (w w' : World) (f : Frame) (a : Answer) (is : f ≡ frame_of line) (carried : Carried rom line w f a w')
-    (asks : Asks) (before after : Sight) (lands : Bool) (kind : Kind) (facts : Facts) (regs : List ℕ)
-    (asks-is : asks ≡ asked w.state f) (before-is : before ≡ sight_of w.state) (after_is : after ≡ sight_of w'.state)
-    (lands-is : lands ≡ (asks.goes && eqb a.number 0))
-    (kind_is : kind ≡ kind_of before.held before.running after.held after.running asks.reset lands)
-    (facts-is : facts ≡ facts_of before after.serial asks (length w.ram) a.value) (regs-is : regs ≡ w'.state.taken) where
+    (s : Step) (regs : List ℕ) (s-is : s ≡ stepped w w' f a.number a.value) (regs-is : regs ≡ w'.state.taken) where
   world_is : w' ≡ (frame_step rom line w f).world
   unfolding step_of
   world_is = (λ i. (carried.step i).world) ∙ sym (ap (λ (g : Frame). (frame_step rom line w g).world) is)
@@ -240,40 +232,32 @@ module _ (rom line b : List ℕ) (w w' : World) (f : Frame) (a : Answer) (is : f
   unfolding step_of
   number_is = sym (said_number a carried.short) ∙ ap number_said ((λ i. (carried.step i).text) ∙ sym (ap (λ (g : Frame). (frame_step rom line w g).text) is))
 
-  kind_same : kind ≡ kind_of w.state.held (running w.state) w'.state.held (running w'.state) (asked w.state f).reset ((asked w.state f).goes && eqb a.number 0)
-  kind_same =
-      kind_is
-      ∙ (λ i. kind_of (before-is i).held (before-is i).running (after_is i).held (after_is i).running (asks-is i).reset (lands-is i))
-      ∙ (λ i. kind_of w.state.held (running w.state) w'.state.held (running w'.state) (asked w.state f).reset ((asks-is i).goes && eqb a.number 0))
-
-  event_is : event_by b w'.image w'.ram regs facts kind ≡ event_of rom b w (frame_of line)
+  event_is : event_by b w'.image w'.ram regs (facts_of s) (kind_in s) ≡ event_of rom b w (frame_of line)
   event_is =
-      (λ i. event_by b w'.image w'.ram (regs-is i) (facts-is i) (kind_same i))
-      ∙ (λ i. event_by b w'.image w'.ram w'.state.taken (facts_of (before-is i) (after_is i).serial (asks-is i) (length w.ram) a.value) (kind_of w.state.held (running w.state) w'.state.held (running w'.state) (asked w.state f).reset ((asked w.state f).goes && eqb a.number 0)))
-      ∙ ap (λ (x : World). shown b w x f a.value ((asked w.state f).goes && eqb a.number 0)) world_is
+      (λ i. event_by b w'.image w'.ram (regs-is i) (facts_of (s-is i)) (kind_in (s-is i)))
+      ∙ ap (λ (x : World). shown b w x f a.number a.value (landed_by f (takes_writes w.state) a.number)) world_is
       ∙ frame_event rom line b w a.value a.number f number_is carried.ran
       ∙ ap (event_of rom b w) is
 
   -- where it is an end, the RAM's length is allowed
-  pub end_allowed : kind ≡ kinds.End → ram_allowed (length w'.ram) ≡ true
+  pub end_allowed : kind_in s ≡ Some kinds.End → ram_allowed (length w'.ram) ≡ true
   unfolding is_end
   end_allowed h =
       let c = w.state in
       let d = w'.state in
-      let e : (c.held && (not (asked c f).reset && not d.held)) ≡ true =
-      kind_end (not c.held && d.held) (c.held && (not (asked c f).reset && not d.held)) (c.held && (asked c f).reset) (c.held && ((asked c f).goes && eqb a.number 0)) (running c && (d.held && not (running d))) (c.held && (not (running c) && running d)) (ap is_end (sym kind_same ∙ h)) in
+      let e : (c.held && (not (is_reset f) && not d.held)) ≡ true =
+      kind_end (not c.held && d.held) (c.held && (not (is_reset f) && not d.held)) (c.held && is_reset f) (c.held && landed_by f (takes_writes c) a.number) (running c && (d.held && not (running d))) (c.held && (not (running c) && running d)) (ap is_end (sym (λ i. kind_in (s-is i)) ∙ h)) in
       rw world_is (frame_end rom line w f (rw world_is at e))
 
-  line_is : line_by b asks.malformed asks.row a.number ≡ line_counted b (frame_of line) (number_said (step_of rom w line).text)
+  line_is : line_counted b s.frame s.number ≡ line_counted b (frame_of line) (number_said (step_of rom w line).text)
   unfolding step_of
   line_is =
-      (λ i. line_by b (asks-is i).malformed (asks-is i).row a.number)
-      ∙ line_same rom line b w a.value a.number f
+      (λ i. line_counted b (s-is i).frame (s-is i).number)
       ∙ (λ i. line_counted b (is i) (number_is i))
       ∙ ap (λ (g : Frame). line_counted b (frame_of line) (number_said (frame_step rom line w g).text)) is
 
   -- what it leaves
-  pub line_audits : (out : List ℕ) (at : ℕ) (b' out' : List ℕ) (at' : ℕ) → Entered b asks.malformed asks.row a.number (event_by b w'.image w'.ram regs facts kind) out at b' out' at'
+  pub line_audits : (out : List ℕ) (at : ℕ) (b' out' : List ℕ) (at' : ℕ) → Entered b (line_counted b s.frame s.number) (event_by b w'.image w'.ram regs (facts_of s) (kind_in s)) out at b' out' at'
       → Audits (audit_of rom w b line) w' out at b' out' at'
   unfolding audit_of
   line_audits out at b' out' at' e =
@@ -285,20 +269,3 @@ module _ (rom line b : List ℕ) (w w' : World) (f : Frame) (a : Answer) (is : f
         end = e.end ∙ ap (λ (x : Event). at + length (event_text n x)) event_is;
         few = e.few;
       }
-
--- where there is no event a line is counted, and nothing is said
-pub quiet_entered : (b image ram regs out : List ℕ) (f : Facts) (at number : ℕ) (malformed is_row : Bool) (k : Kind) → is_quiet k ≡ true
-    → Entered b malformed is_row number (event_by b image ram regs f k) out at (line_by b malformed is_row number) out at
-unfolding is_quiet event_by event_text event_counted
-quiet_entered b image ram regs out f at number malformed is_row kinds.Nothing e = record {
-  book = refl;
-  text = sym (placed_none out at);
-  end = sym (add-zero at);
-  few = omega arith;
-}
-quiet_entered b image ram regs out f at number malformed is_row kinds.Start e = not_both e refl
-quiet_entered b image ram regs out f at number malformed is_row kinds.End e = not_both e refl
-quiet_entered b image ram regs out f at number malformed is_row kinds.Drop e = not_both e refl
-quiet_entered b image ram regs out f at number malformed is_row kinds.Land e = not_both e refl
-quiet_entered b image ram regs out f at number malformed is_row kinds.Stop e = not_both e refl
-quiet_entered b image ram regs out f at number malformed is_row kinds.Resume e = not_both e refl

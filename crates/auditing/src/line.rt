@@ -1,27 +1,39 @@
 // One line of a recording: it is carried out, counted, and its event is put into a lent buffer.
-ghost use Rattle.std.specs.Prelude.{◌≡◌, true, ◌+◌, ◌≤◌, length};
+ghost use Rattle.std.specs.Prelude.{◌≡◌, true, Some, ◌+◌, ◌≤◌, length};
 ghost use Rattle.timing.specs.Lent.{ram_allowed};
 ghost use Rattle.layout.specs.Layout.{is_record, decoded};
 ghost use Rattle.session.specs.Session.{world};
-ghost use Rattle.auditing.specs.Line.{audit_of};
-ghost use Rattle.events.specs.Aside.{facts_of, event_by};
-ghost use Rattle.auditing.specs.Aside.{is_quiet, Entered, Audits};
+ghost use Rattle.auditing.specs.Line.{is_malformed, is_row, line_counted, audit_of};
+ghost use Rattle.events.specs.Aside.{kind_in, facts_of, event_by};
+ghost use Rattle.auditing.specs.Aside.{Entered, Audits};
 
 use events::book::{LINES, count_event, count_line, one_more};
-use events::event::{Facts, Kind, event_of, facts_of, kind_of, landed};
-use events::sight::{Asks, Sight, asks_of, look};
+use events::event::{Kind, Step, event_of};
+use events::sight::look;
 use events::text::put_event;
-use lines::line::frame_of;
+use lines::line::{Frame, frame_of};
 use session::session::carry_out;
+
+// Whether a frame is malformed.
+#[tactic(auto, unfolding(crate::specs::Line::is_malformed))]
+fn is_malformed(frame: Frame) -> bool
+    ensures { result ≡ is_malformed frame }
+{
+    matches!(frame, Frame::Malformed)
+}
+
+// Whether it is an image row.
+#[tactic(auto, unfolding(crate::specs::Line::is_row))]
+fn is_row(frame: Frame) -> bool
+    ensures { result ≡ is_row frame }
+{
+    matches!(frame, Frame::Row(_))
+}
 
 // Counts a line and its event, and puts its event's text at a place of a buffer.
 fn entered(
     book: &mut [u64],
-    kind: Kind,
-    facts: Facts,
-    malformed: bool,
-    row: bool,
-    number: u32,
+    step: Step,
     image: &[u8],
     ram: &[u8],
     registers: &[u8],
@@ -29,74 +41,16 @@ fn entered(
     at: usize,
 ) -> usize
     requires { (length book.old ≡ 13) × (at + 256 ≤ length out.old) × (length registers.now ≡ 54)
-        × (kind ≡ Kind.End → ram_allowed (length ram.now) ≡ true) }
-    ensures { Entered book.old malformed row number
-        (event_by book.old image.now ram.now registers.now facts kind) out.old at book.new
-        out.new result }
+        × (kind_in step ≡ Some Kind.End → ram_allowed (length ram.now) ≡ true) }
+    ensures { Entered book.old (line_counted book.old step.frame step.number)
+        (event_by book.old image.now ram.now registers.now (facts_of step) (kind_in step)) out.old
+        at book.new out.new result }
 {
     let line = one_more(book[LINES]);
-    let seen = event_of(kind, book, image, ram, facts);
-    count_line(book, malformed, row, number);
+    let seen = event_of(step.kind(), book, image, ram, step);
+    count_line(book, is_malformed(step.frame), is_row(step.frame), step.number);
     count_event(book, seen);
     put_event(out, at, line, seen, registers)
-}
-
-// Whether there is no event.
-#[tactic(auto, unfolding(crate::specs::Aside::is_quiet))]
-fn is_quiet(kind: Kind) -> bool
-    ensures { result ≡ is_quiet kind }
-{
-    match kind {
-        Kind::Nothing => true,
-        Kind::Start => false,
-        Kind::End => false,
-        Kind::Drop => false,
-        Kind::Land => false,
-        Kind::Stop => false,
-        Kind::Resume => false,
-    }
-}
-
-// The same by what is looked at: what an event says is worked out only where there is one.
-fn entered_by(
-    book: &mut [u64],
-    kind: Kind,
-    before: Sight,
-    next: u16,
-    asks: Asks,
-    size: usize,
-    ran: u32,
-    number: u32,
-    image: &[u8],
-    ram: &[u8],
-    registers: &[u8],
-    out: &mut [u8],
-    at: usize,
-) -> usize
-    requires { (length book.old ≡ 13) × (at + 256 ≤ length out.old) × (length registers.now ≡ 54)
-        × (kind ≡ Kind.End → ram_allowed (length ram.now) ≡ true) }
-    ensures { Entered book.old asks.malformed asks.row number
-        (event_by book.old image.now ram.now registers.now (facts_of before next asks size ran) kind)
-        out.old at book.new out.new result }
-{
-    if is_quiet(kind) {
-        count_line(book, asks.malformed, asks.row, number);
-        return at;
-    }
-    let facts = facts_of(before, next, asks, size, ran);
-    entered(
-        book,
-        kind,
-        facts,
-        asks.malformed,
-        asks.row,
-        number,
-        image,
-        ram,
-        registers,
-        out,
-        at,
-    )
 }
 
 // Carries out a line of a recording, counts it, and puts its event at a place of a buffer; returns the place after it.
@@ -117,33 +71,16 @@ pub fn line_audited(
         out.old at book.new out.new result × (is_record state.new ≡ true) }
 {
     let frame = frame_of(line);
-    let asks = asks_of(state, frame);
     let before = look(state);
-    let length = ram.len();
+    let size = ram.len();
     let answer = carry_out(state, rom, ram, store, image, line, frame);
-    let after = look(state);
-    let lands = landed(asks.goes, answer.number);
-    let kind = kind_of(
-        before.held,
-        before.running,
-        after.held,
-        after.running,
-        asks.reset,
-        lands,
-    );
-    entered_by(
-        book,
-        kind,
+    let step = Step {
+        frame,
         before,
-        after.serial,
-        asks,
-        length,
-        answer.value,
-        answer.number,
-        image,
-        ram,
-        &state[67..],
-        out,
-        at,
-    )
+        after: look(state),
+        size,
+        number: answer.number,
+        value: answer.value,
+    };
+    entered(book, step, image, ram, &state[67..], out, at)
 }

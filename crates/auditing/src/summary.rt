@@ -1,27 +1,17 @@
 // The summary of a recording, in a lent buffer.
-ghost use Rattle.std.specs.Prelude.{◌≡◌, ◌-◌, ◌≤◌, length};
+ghost use Rattle.std.specs.Prelude.{◌≡◌, ◌≤◌, length};
 ghost use Rattle.wording.specs.Aside.{Put};
 ghost use Rattle.auditing.specs.Summary.{summary_of};
 
 use events::book::{CAPTURES, DROPPED, ENDED, LINES, MALFORMED, REFUSED, WHOLE};
 use wording::events::put_summary;
 
-// What ended and is not whole.
-fn touched_of(ended: u64, whole: u64) -> u64
-    ensures { result ≡ ended - whole }
-{
-    if whole < ended {
-        return ended - whole;
-    }
-    0
-}
-
 // The summary, at the start of a buffer; returns how many bytes are written.
 pub fn summary_put(book: &[u64], held: bool, out: &mut [u8]) -> usize
     requires { (length book.now ≡ 13) × (512 ≤ length out.old) }
     ensures { Put out.old 0 (summary_of book.now held) 400 out.new result }
 {
-    let touched = touched_of(book[ENDED], book[WHOLE]);
+    let touched = book[ENDED].saturating_sub(book[WHOLE]);
     put_summary(
         out,
         0,
@@ -33,6 +23,6 @@ pub fn summary_put(book: &[u64], held: bool, out: &mut [u8]) -> usize
         book[WHOLE],
         touched,
         book[DROPPED],
-        held as u64,
+        u64::from(held),
     )
 }

@@ -1,4 +1,5 @@
-// The book of an audit: thirteen numbers, lent.
+// The book of an audit: thirteen numbers, lent. Its functions take a slice, since C lends one, and after a `try_into` to `&mut [u64; 13]` nothing is
+// known of the slice that was lent; and no struct, since the theorems of `audited` speak of the thirteen numbers as a list.
 ghost use Rattle.std.specs.Prelude.{◌≡◌, List, ℕ, ◌<◌, eqb, length};
 ghost use Rattle.laws.specs.Pick.{pick};
 ghost use Rattle.events.specs.Book.{noted, one_more, more, lines, writes, first};
@@ -39,10 +40,7 @@ pub const DROPPED: usize = 12;
 pub fn one_more(n: u64) -> u64
     ensures { result ≡ one_more n }
 {
-    if n < 0xFFFFFFFFFFFFFFFF {
-        return n + 1;
-    }
-    n
+    n.saturating_add(1)
 }
 
 // One more of these.
@@ -94,13 +92,15 @@ fn count_touch(book: &mut [u64])
     count(book, WRITES);
 }
 
-// An event.
-pub fn count_event(book: &mut [u64], seen: Seen)
+// An event; where there is none the book stays.
+pub fn count_event(book: &mut [u64], seen: Option<Seen>)
     requires { length book.old ≡ 13 }
     ensures { (regs : List ℕ) → book.new ≡ event_counted book.old (event_from seen regs) }
 {
-    match seen {
-        Seen::Nothing => {}
+    let Some(event) = seen else {
+        return;
+    };
+    match event {
         Seen::Start(_, _, _) => {
             book[WRITES] = 0;
             count(book, CAPTURES);

@@ -1,21 +1,20 @@
 // The event of a line: its kind, and what it says.
-ghost use Rattle.std.specs.Prelude.{◌≡◌, true, ◌&&◌, List, ℕ, ◌+◌, eqb, length};
+ghost use Rattle.std.specs.Prelude.{◌≡◌, true, Some, List, ℕ, length};
 ghost use Rattle.timing.specs.Lent.{ram_allowed};
 ghost use Rattle.crc.specs.Crc.{crc_of};
 ghost use Rattle.plates.specs.Grey.{plate_of};
 ghost use Rattle.events.specs.Event.{end_of};
-ghost use Rattle.laws.specs.Pick.{pick};
-ghost use Rattle.events.specs.Aside.{kind_of, place_by, facts_of, event_by, event_from};
+ghost use Rattle.events.specs.Aside.{is_reset, lands_in, cycles_in, place_in, byte_in, kind_in, facts_of, event_by, event_from};
 
 use super::book::{FIRST, LAST, ROW, WRITES};
-use super::sight::{Asks, Sight, place_of};
+use super::sight::{Sight, place_of};
 use crc::crc32_small;
+use lines::line::Frame;
 use plates::grey::export;
 
 // What is seen of a line.
-#[derive(Clone, Copy)]
+#[derive(Clone, Copy, PartialEq, Eq, Debug)]
 pub enum Kind {
-    Nothing,
     Start,
     End,
     Drop,
@@ -26,9 +25,8 @@ pub enum Kind {
 
 // An event, but for the registers of a start: serial, checksum of the image and line of its last row; serial and cycles; serial, place and
 // byte; serial, cycles and checksum of the plate, and how many writes touched it, with the first line and the last.
-#[derive(Clone, Copy)]
+#[derive(Clone, Copy, PartialEq, Eq, Debug)]
 pub enum Seen {
-    Nothing,
     Start(u16, u32, u64),
     Stop(u16, u64),
     Resume(u16, u64),
@@ -38,8 +36,20 @@ pub enum Seen {
     Touched(u16, u64, u32, u64, u64, u64),
 }
 
-// What an event may say: the serial before the line and after it, the cycles with those of the line, the place and the byte of a write.
+// A line that was carried out: its frame, what is seen of the record before it and after it, how many bytes of RAM are lent, the number of a refusal
+// (0: none), and the value that is answered.
 #[derive(Clone, Copy)]
+pub struct Step {
+    pub frame: Frame,
+    pub before: Sight,
+    pub after: Sight,
+    pub size: usize,
+    pub number: u32,
+    pub value: u32,
+}
+
+// What an event may say: the serial before the line and after it, the cycles with those of the line, the place and the byte of a write.
+#[derive(Clone, Copy, PartialEq, Eq, Debug)]
 pub struct Facts {
     pub serial: u16,
     pub next: u16,
@@ -48,79 +58,84 @@ pub struct Facts {
     pub byte: u8,
 }
 
-// Whether a write landed: it goes to the RAM, and is not refused.
-pub fn landed(goes: bool, number: u32) -> bool
-    ensures { result ≡ (goes && eqb number 0) }
-{
-    if goes {
-        return number == 0;
+impl Step {
+    // Whether it is a reset.
+    fn is_reset(self) -> bool
+        ensures { result ≡ is_reset self.frame }
+    {
+        matches!(self.frame, Frame::Reset)
     }
-    false
-}
 
-// The kind of an event, by what is held and runs before a line and after it.
-pub fn kind_of(held: bool, runs: bool, still: bool, on: bool, reset: bool, lands: bool) -> Kind
-    ensures { result ≡ kind_of held runs still on reset lands }
-{
-    if held {
-        if reset {
-            return Kind::Drop;
+    // Whether it is a write that landed: it goes to the RAM, and is not refused.
+    fn lands(self) -> bool
+        ensures { result ≡ lands_in self }
+    {
+        match self.frame {
+            Frame::Write(a, _) => 0x8000 <= a && self.before.takes && self.number == 0,
+            _ => false,
         }
-        if still {
-            if lands {
-                return Kind::Land;
-            }
-            if runs {
-                if on {
-                    return Kind::Nothing;
-                }
-                return Kind::Stop;
-            }
-            if on {
-                return Kind::Resume;
-            }
-            return Kind::Nothing;
+    }
+
+    // The kind of its event, by what is held and runs before it and after it.
+    pub fn kind(self) -> Option<Kind>
+        ensures { result ≡ kind_in self }
+    {
+        let held = self.before.held;
+        let still = self.after.held;
+        match (held, still, self.before.running, self.after.running) {
+            (false, false, _, _) => None,
+            (false, true, _, _) => Some(Kind::Start),
+            (true, _, _, _) if self.is_reset() => Some(Kind::Drop),
+            (true, false, _, _) => Some(Kind::End),
+            (true, true, _, _) if self.lands() => Some(Kind::Land),
+            (true, true, true, false) => Some(Kind::Stop),
+            (true, true, false, true) => Some(Kind::Resume),
+            (true, true, _, _) => None,
         }
-        return Kind::End;
     }
-    if still {
-        return Kind::Start;
-    }
-    Kind::Nothing
-}
 
-// The cycles run, of these ticks alone.
-fn cycles_of(elapsed: u32, tick: bool, ran: u32) -> u64
-    ensures { result ≡ elapsed + pick tick ran 0 }
-{
-    if tick {
-        return elapsed as u64 + ran as u64;
+    // The cycles of the capture held before it, with those of its ticks.
+    fn cycles(self) -> u64
+        ensures { result ≡ cycles_in self }
+    {
+        let elapsed = u64::from(self.before.elapsed);
+        match self.frame {
+            Frame::Tick(_) => elapsed + u64::from(self.value),
+            _ => elapsed,
+        }
     }
-    elapsed as u64
-}
 
-// Where a write goes in so many bytes of RAM.
-fn place_asked(select: u8, length: usize, asks: Asks) -> u32
-    ensures { result ≡ pick asks.write (place_by select length asks.address) 0 }
-{
-    if asks.write {
-        return place_of(select, length, asks.address);
+    // Where it writes in the RAM.
+    fn place(self) -> u32
+        ensures { result ≡ place_in self }
+    {
+        match self.frame {
+            Frame::Write(a, _) => place_of(self.before.select, self.size, a),
+            _ => 0,
+        }
     }
-    0
-}
 
-// What an event may say.
-pub fn facts_of(before: Sight, next: u16, asks: Asks, length: usize, ran: u32) -> Facts
-    ensures { result ≡ facts_of before next asks length ran }
-{
-    let cycles = cycles_of(before.elapsed, asks.tick, ran);
-    let place = place_asked(before.select, length, asks);
-    Facts {
-        serial: before.serial,
-        next,
-        cycles,
-        place,
-        byte: asks.byte,
+    // The byte that it writes.
+    fn byte(self) -> u8
+        ensures { result ≡ byte_in self }
+    {
+        match self.frame {
+            Frame::Write(_, v) => v,
+            _ => 0,
+        }
+    }
+
+    // What its event may say.
+    pub fn facts(self) -> Facts
+        ensures { result ≡ facts_of self }
+    {
+        Facts {
+            serial: self.before.serial,
+            next: self.after.serial,
+            cycles: self.cycles(),
+            place: self.place(),
+            byte: self.byte(),
+        }
     }
 }
 
@@ -130,14 +145,14 @@ fn plate_sum(ram: &[u8]) -> u32
     ensures { result ≡ crc_of (plate_of ram.now) }
 {
     let mut file = [0u8; 14351];
-    export(ram, &mut file);
+    let _ = export(ram, &mut file);
     crc32_small(&file)
 }
 
 // An end: whole where no bus write landed in the picture area.
 fn end_of(book: &[u64], serial: u16, cycles: u64, plate: u32) -> Seen
     requires { length book.now ≡ 13 }
-    ensures { (regs : List ℕ) → event_from result regs ≡ end_of book.now serial cycles plate }
+    ensures { (regs : List ℕ) → event_from (Some result) regs ≡ end_of book.now serial cycles plate }
 {
     if book[WRITES] == 0 {
         return Seen::Whole(serial, cycles, plate);
@@ -145,18 +160,19 @@ fn end_of(book: &[u64], serial: u16, cycles: u64, plate: u32) -> Seen
     Seen::Touched(serial, cycles, plate, book[WRITES], book[FIRST], book[LAST])
 }
 
-// An event of a kind.
-pub fn event_of(kind: Kind, book: &[u64], image: &[u8], ram: &[u8], facts: Facts) -> Seen
-    requires { (length book.now ≡ 13) × (kind ≡ Kind.End → ram_allowed (length ram.now) ≡ true) }
-    ensures { (regs : List ℕ) → event_from result regs ≡ event_by book.now image.now ram.now regs facts kind }
+// The event of a line, by its kind; where there is none, nothing that it may say is worked out.
+pub fn event_of(kind: Option<Kind>, book: &[u64], image: &[u8], ram: &[u8], step: Step) -> Option<Seen>
+    requires { (length book.now ≡ 13) × (kind ≡ Some Kind.End → ram_allowed (length ram.now) ≡ true) }
+    ensures { (regs : List ℕ) → event_from result regs ≡ event_by book.now image.now ram.now regs (facts_of step) kind }
 {
-    match kind {
-        Kind::Nothing => Seen::Nothing,
+    let kind = kind?;
+    let facts = step.facts();
+    Some(match kind {
         Kind::Start => Seen::Start(facts.next, crc32_small(image), book[ROW]),
         Kind::End => end_of(book, facts.serial, facts.cycles, plate_sum(ram)),
         Kind::Drop => Seen::Dropped(facts.serial, facts.cycles),
         Kind::Land => Seen::Landed(facts.serial, facts.place, facts.byte),
         Kind::Stop => Seen::Stop(facts.serial, facts.cycles),
         Kind::Resume => Seen::Resume(facts.serial, facts.cycles),
-    }
+    })
 }

@@ -11,12 +11,14 @@ use wording::events::{
 };
 
 // Puts the text of an event at a place of a buffer, and returns the place after it.
-pub fn put_event(out: &mut [u8], at: usize, line: u64, seen: Seen, registers: &[u8]) -> usize
+pub fn put_event(out: &mut [u8], at: usize, line: u64, seen: Option<Seen>, registers: &[u8]) -> usize
     requires { (at + 256 ≤ length out.old) × (length registers.now ≡ 54) }
     ensures { Put out.old at (event_text line (event_from seen registers.now)) 256 out.new result }
 {
-    match seen {
-        Seen::Nothing => at,
+    let Some(event) = seen else {
+        return at;
+    };
+    match event {
         Seen::Start(serial, image, row) => put_start(out, at, line, serial, image, row, registers),
         Seen::Stop(serial, cycles) => put_stop(out, at, line, serial, cycles),
         Seen::Resume(serial, cycles) => put_resume(out, at, line, serial, cycles),

@@ -22,10 +22,7 @@ fn held_in(book: &[u64]) -> usize
     requires { length book.now ≡ 13 }
     ensures { (result ≡ held_in book.now) × (result ≤ 261) }
 {
-    if book[HELD] < 261 {
-        return book[HELD] as usize;
-    }
-    261
+    book[HELD].min(261) as usize
 }
 
 // Notes how many bytes are held, and how many were written.
@@ -99,7 +96,7 @@ fn held_put(book: &[u64], state: &[u8], out: &mut [u8], at: usize) -> usize
 {
     let seen = look(state);
     if seen.held {
-        return put_held(out, at, book[LINES], seen.serial, seen.elapsed as u64);
+        return put_held(out, at, book[LINES], seen.serial, u64::from(seen.elapsed));
     }
     at
 }

@@ -1,148 +1,93 @@
 // Pieces of a recording: each is played, and the events of its lines are written to standard output as they come.
 #![tactic(auto)]
 
-ghost use Rattle.std.specs.Prelude.{◌<◌, ◌≤◌, length};
-ghost use Rattle.std.specs.Counts.{IsPrefixLen};
+ghost use Rattle.std.specs.Prelude.{◌<◌, ◌≤◌, IfOk, length};
 
 use ledger::gulxinett_audit;
-use std::io::Write;
+use std::io::{self, Write};
 use sweeping::lines_audited;
 
-// How much of a piece was played, and whether its events could be written.
-#[derive(Clone, Copy)]
-struct Turn {
-    used: usize,
-    heard: bool,
+// Writes so many bytes of a buffer, but at most all.
+fn write(sink: &mut impl Write, out: &[u8], n: usize) -> io::Result<()> {
+    sink.write_all(&out[..n.min(out.len())])
 }
 
-// n, but at most the buffer's length: says that what was counted stays within it.
-fn within(n: usize, buf: &[u8]) -> usize
-    ensures { IsPrefixLen result buf.now }
-{
-    let most = buf.len();
-    if n < most {
-        return n;
+// How many bytes the last call has put into the buffer: the book's first number.
+fn written(book: &[u64]) -> usize {
+    match book.first() {
+        Some(n) => *n as usize,
+        None => 0,
     }
-    most
 }
 
-// n, but at least 1 and at most another number: of a piece that is not empty at least one byte is read.
-fn some_of(n: usize, most: usize) -> usize
-    requires { 0 < most }
-    ensures { (0 < result) × (result ≤ most) }
-{
-    if n == 0 {
-        return 1;
-    }
-    if n < most {
-        return n;
-    }
-    most
+// Writes what the last call has put into the buffer.
+pub fn tell(sink: &mut impl Write, book: &[u64], out: &[u8]) -> io::Result<()> {
+    write(sink, out, written(book))
 }
 
-// Writes what the last call has put into the buffer: so many bytes as the book's first number says.
-pub fn tell(sink: &mut impl Write, book: &[u64], out: &[u8]) -> bool {
-    if book.len() == 0 {
-        return true;
-    }
-    let n = within(book[0] as usize, out);
-    sink.write_all(&out[..n]).is_ok()
+// What a piece is played over: the book, the buffer of a line that has begun, the session (its record, ROM, RAM, frame store and image), and the buffer
+// for events.
+#[derive(Drop)]
+pub struct Audit<'a> {
+    pub book: &'a mut [u64],
+    pub line: &'a mut [u8],
+    pub state: &'a mut [u8],
+    pub rom: &'a [u8],
+    pub ram: &'a mut [u8],
+    pub store: &'a mut [u8],
+    pub image: &'a mut [u8],
+    pub out: &'a mut [u8],
 }
 
-// Plays a line of a piece, or what there is of it, and writes its event.
-fn play_line(
-    sink: &mut impl Write,
-    book: &mut [u64],
-    line: &mut [u8],
-    state: &mut [u8],
-    rom: &[u8],
-    ram: &mut [u8],
-    store: &mut [u8],
-    image: &mut [u8],
-    piece: &[u8],
-    out: &mut [u8],
-) -> Turn
-    requires { 0 < length piece.now }
-    ensures { (0 < result.used) × (result.used ≤ length piece.now) }
-{
-    let answer = gulxinett_audit(book, line, state, rom, ram, store, image, piece, out);
-    let used = some_of((answer % 4294967296) as usize, piece.len());
-    let heard = tell(sink, book, out);
-    Turn { used, heard }
-}
-
-// Whether a line has begun: bytes of it are held.
-fn has_begun(book: &[u64]) -> bool {
-    if book.len() < 2 {
-        return true;
-    }
-    book[1] != 0
-}
-
-// Plays whole lines of a piece, as many as the buffer has room for the events of, and writes these; where a line has begun before, or none ends here,
-// one line or what there is of it.
-fn play_some(
-    sink: &mut impl Write,
-    book: &mut [u64],
-    line: &mut [u8],
-    state: &mut [u8],
-    rom: &[u8],
-    ram: &mut [u8],
-    store: &mut [u8],
-    image: &mut [u8],
-    piece: &[u8],
-    out: &mut [u8],
-) -> Turn
-    requires { 0 < length piece.now }
-    ensures { (0 < result.used) × (result.used ≤ length piece.now) }
-{
-    if has_begun(book) {
-        return play_line(sink, book, line, state, rom, ram, store, image, piece, out);
-    }
-    let swept = lines_audited(book, state, rom, ram, store, image, piece, out);
-    if swept.used == 0 {
-        return play_line(sink, book, line, state, rom, ram, store, image, piece, out);
-    }
-    let used = swept.used;
-    let n = within(swept.written, out);
-    let heard = sink.write_all(&out[..n]).is_ok();
-    Turn { used, heard }
-}
-
-// Plays a piece: every event is written before it returns. It answers whether they could be.
-pub fn play(
-    sink: &mut impl Write,
-    book: &mut [u64],
-    line: &mut [u8],
-    state: &mut [u8],
-    rom: &[u8],
-    ram: &mut [u8],
-    store: &mut [u8],
-    image: &mut [u8],
-    piece: &[u8],
-    out: &mut [u8],
-) -> bool
-    requires { length piece.now ≤ 65536 }
-{
-    let mut at = 0;
-    while at < piece.len() {
-        let turn = play_some(
-            sink,
-            book,
-            line,
-            state,
-            rom,
-            ram,
-            store,
-            image,
-            &piece[at..],
-            out,
+impl<'a> Audit<'a> {
+    // Plays a line of a piece, or what there is of it, and writes its event; answers how much of the piece it is. Of a piece that is not empty that is
+    // at least one byte.
+    fn play_line(&mut self, sink: &mut impl Write, piece: &[u8]) -> io::Result<usize>
+        requires { 0 < length piece.now }
+        ensures { IfOk result (λ used. (0 < used) × (used ≤ length piece.now)) }
+    {
+        let answer = gulxinett_audit(
+            self.book, self.line, self.state, self.rom, self.ram, self.store, self.image, piece,
+            self.out,
         );
-        let used = turn.used;
-        if !turn.heard {
-            return false;
-        }
-        at += used;
+        let n = written(self.book);
+        write(sink, self.out, n)?;
+        Ok(((answer % 4294967296) as usize).clamp(1, piece.len()))
     }
-    true
+
+    // Whether a line has begun: bytes of it are held.
+    fn has_begun(&self) -> bool {
+        self.book.len() < 2 || self.book[1] != 0
+    }
+
+    // Plays whole lines of a piece, as many as the buffer has room for the events of, and writes these; where a line has begun before, or none ends
+    // here, one line or what there is of it. It answers how much of the piece was played.
+    fn play_some(&mut self, sink: &mut impl Write, piece: &[u8]) -> io::Result<usize>
+        requires { 0 < length piece.now }
+        ensures { IfOk result (λ used. (0 < used) × (used ≤ length piece.now)) }
+    {
+        if self.has_begun() {
+            return self.play_line(sink, piece);
+        }
+        let swept = lines_audited(
+            self.book, self.state, self.rom, self.ram, self.store, self.image, piece, self.out,
+        );
+        if swept.used == 0 {
+            return self.play_line(sink, piece);
+        }
+        write(sink, self.out, swept.written)?;
+        Ok(swept.used)
+    }
+
+    // Plays a piece: every event is written before it returns.
+    pub fn play(&mut self, sink: &mut impl Write, piece: &[u8]) -> io::Result<()>
+        requires { length piece.now ≤ 65536 }
+    {
+        let mut rest = piece;
+        while !rest.is_empty() {
+            let used = self.play_some(sink, rest)?;
+            rest = &rest[used..];
+        }
+        Ok(())
+    }
 }

@@ -1,15 +1,20 @@
 -- Lines that are read where they stand: one that says a frame ends where an LF stands after it. Assumes nothing.
 use mathlib.Core.Path.{◌≡◌, sym, ap, ◌∙◌}
-use mathlib.Core.Bool.{true, false, false≢true}
+use mathlib.Core.Bool.{Bool, true, false, false≢true}
 use mathlib.Core.List.{List}
 use Prim.Native.Nat.{ℕ, ◌+◌, ◌-◌, ◌<◌, ◌≤◌}
 use native.Mathlib.Nat.{add-zero}
 use native.Mathlib.Omega.{arith}
-use lib.Dec.{eqb}
+use lib.Dec.{eqb, ltb}
+use Rattle.std.proofs.Common.{Some, None, cond, position, slice_range}
+use Rattle.std.specs.List.{position_or_len}
+use Rattle.std.proofs.lemmas.Option.{none-some}
+use Rattle.std.proofs.lemmas.List.Quantifiers.{position-Some}
+use Rattle.std.proofs.lemmas.List.Sums.{fails_before_first}
 use lib.ListN.{length, get_or, take, drop, length-drop}
 use lib.Seq.{get_or-drop, get_or-take, length-take-le}
-use borrow.Author.Tests.{eq-eqb, eqb-true}
-use Rattle.laws.proofs.Bools.{either, both_right}
+use borrow.Author.Tests.{eq-eqb, eqb-true, ltb-false}
+use Rattle.laws.proofs.Bools.{either, not_both, both_right}
 use Rattle.laws.proofs.Order.{split}
 use Rattle.lines.specs.Line.{is_hex, hex_part, frame_of}
 use Rattle.lines.specs.Kinds.{is_malformed}
@@ -26,6 +31,52 @@ pub passed_one : (piece : List ℕ) (from i : ℕ) → ((k : ℕ) → from ≤ k
     → (k : ℕ) → from ≤ k → k < i + 1 → get_or piece k 0 ≡ 0x0A → ⊥
 passed_one piece from i before here k a b e =
     split k i (λ l. before k a l e) (λ l. let same : k ≡ i = omega arith in here (sym (ap (λ j. get_or piece j 0) same) ∙ e))
+
+-- the bytes from a place on
+at_place : (piece : List ℕ) (i k : ℕ) → k < length (slice_range piece i (length piece)) → get_or (slice_range piece i (length piece)) k 0 ≡ get_or piece (i + k) 0
+at_place piece i k l = get_or-take (length piece - i) (drop i piece) k 0 (omega (arith, length-take-le (length piece - i) (drop i piece) (simp length-drop (omega arith)))) ∙ get_or-drop i piece k 0
+
+rest_long : (piece : List ℕ) (i : ℕ) → length (slice_range piece i (length piece)) ≡ length piece - i
+rest_long piece i = length-take-le (length piece - i) (drop i piece) (simp length-drop (omega arith))
+
+-- no byte is LF before a place, nor so many from there on
+module _ (piece : List ℕ) (from i : ℕ) (before : (j : ℕ) → from ≤ j → j < i → get_or piece j 0 ≡ 0x0A → ⊥) where
+  none_to : (n : ℕ) → n ≤ length (slice_range piece i (length piece)) → ((k : ℕ) → k < n → eqb (get_or (slice_range piece i (length piece)) k 0) 0x0A ≡ false)
+      → (j : ℕ) → from ≤ j → j < i + n → get_or piece j 0 ≡ 0x0A → ⊥
+  none_to n m other j a l e =
+      split j i (λ b. before j a b e)
+      (λ b.
+      let same : i + (j - i) ≡ j = omega arith in
+      let lt : j - i < n = omega arith in
+      let byte : get_or (slice_range piece i (length piece)) (j - i) 0 ≡ 0x0A = at_place piece i (j - i) (omega arith) ∙ ap (λ x. get_or piece x 0) same ∙ e in
+      not_both (eq-eqb _ 0x0A byte) (other (j - i) lt))
+
+  -- the first LF is so many bytes on, or there is none
+  pub ends_found : (k : ℕ) → from ≤ i → i ≤ length piece → position (λ b. eqb b 0x0A) (slice_range piece i (length piece)) ≡ Some k → Ends piece from (i + k)
+  ends_found k a m p =
+      let h = position-Some (λ b. eqb b 0x0A) (slice_range piece i (length piece)) k 0 p in
+      let l : k < length piece - i = omega (arith, rest_long piece i, h.0) in
+      record {
+        after = omega arith;
+        inside = omega arith;
+        none = none_to k (omega (arith, h.0)) h.2;
+        found = λ _. sym (at_place piece i k h.0) ∙ eqb-true _ 0x0A h.1;
+      }
+
+  pub ends_none : from ≤ length piece → i ≤ length piece → position (λ b. eqb b 0x0A) (slice_range piece i (length piece)) ≡ None → Ends piece from (length piece)
+  ends_none a m p =
+      let rest = slice_range piece i (length piece) in
+      let n = position_or_len (λ b. eqb b 0x0A) rest in
+      either (ltb n (length rest))
+      (λ t. absurd (none-some n (sym p ∙ ap (λ (x : Bool). cond x (Some n) None) t)))
+      (λ f.
+      let far : length rest ≤ n = ltb-false n (length rest) f in
+      record {
+        after = a;
+        inside = omega arith;
+        none = λ j b l e. none_to (length rest) (omega arith) (λ k h. fails_before_first (λ b. eqb b 0x0A) rest k 0 (omega arith)) j b (omega (arith, rest_long piece i)) e;
+        found = λ h. absurd (omega arith);
+      })
 
 -- a digit is no LF
 no_end_lem : (b : ℕ) → is_hex b ≡ true → eqb b 0x0A ≡ false

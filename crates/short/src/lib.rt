@@ -1,7 +1,7 @@
 // Lines of a piece, read where they stand: where one ends; reads, writes and ticks one after the other, whose kind says where their LF is to be.
 #![tactic(auto)]
 
-ghost use Rattle.std.specs.Prelude.{◌≡◌, true, ◌+◌, ◌≤◌, ◌<◌, length};
+ghost use Rattle.std.specs.Prelude.{◌≡◌, true, ◌+◌, ◌≤◌, ◌<◌, length, nat_eq, position};
 ghost use Rattle.layout.specs.Layout.{is_record, decoded};
 ghost use Rattle.lines.specs.Kinds.{is_malformed};
 ghost use Rattle.session.specs.Session.{world};
@@ -21,43 +21,39 @@ pub struct Place {
     pub at: usize,
 }
 
-// Where the line that begins at a place of a piece ends: at its LF, or at the piece's end. Eight bytes are looked at in a row, as long as there are so many.
+// Where the first LF is, if there is one.
+fn first_lf(bytes: &[u8]) -> Option<usize>
+    ensures { result ≡ position (λ b. nat_eq b 10) bytes.now }
+{
+    bytes.iter().position(|b| *b == 0x0A)
+}
+
+// Where the line that begins at a place of a piece ends: at its LF, or at the piece's end. Eight bytes are looked at in a row, as long as there are so many:
+// so the compiler unrolls the loop, which `position` alone does not let it (docs/DECISIONS.md, the end of a line).
 pub fn line_end(piece: &[u8], from: usize) -> usize
     requires { from ≤ length piece.now }
     ensures { Ends piece.now from result }
 {
     let mut i = from;
     while 8 <= piece.len() - i {
-        let mut k = 0;
-        while k < 8 {
+        for k in 0..8 {
             if piece[i + k] == 0x0A {
                 return i + k;
             }
-            k += 1;
         }
         i += 8;
     }
-    while i < piece.len() {
-        if piece[i] == 0x0A {
-            return i;
-        }
-        i += 1;
+    match first_lf(&piece[i..]) {
+        Some(k) => i + k,
+        None => piece.len(),
     }
-    i
 }
 
 // Whether a line says no frame.
 pub fn is_malformed(frame: Frame) -> bool
     ensures { result ≡ is_malformed frame }
 {
-    match frame {
-        Frame::Reset => false,
-        Frame::Read(_) => false,
-        Frame::Write(_, _) => false,
-        Frame::Tick(_) => false,
-        Frame::Row(_) => false,
-        Frame::Malformed => true,
-    }
+    matches!(frame, Frame::Malformed)
 }
 
 // Carries out and answers a line of n bytes. It is left where no LF stands after them or they say no frame.
@@ -111,8 +107,7 @@ fn short_line(
         (world (decoded state.new) ram.new store.new image.new) out.new result.at result.from
         × (is_record state.new ≡ true) }
 {
-    let kind = piece[from + 1];
-    match kind {
+    match piece[from + 1] {
         b'1' => line_of(state, rom, ram, store, image, piece, from, 6, out, at),
         b'2' => line_of(state, rom, ram, store, image, piece, from, 8, out, at),
         b'3' => line_of(state, rom, ram, store, image, piece, from, 10, out, at),

@@ -23,20 +23,6 @@ use Rattle.audited.proofs.Sessions.{world_append, book_append}
 use Rattle.audited.proofs.Loop.{no_end, ended_line}
 use Rattle.sweeping.specs.Aside.{swept_by, begins, Sweeps, Stops, Strides}
 
--- a line ends, and there is room for its event
-pub went_on : (end n room : ℕ) (r : Bool) → r ≡ (ltb end n && leb 256 room) → r ≡ true → (end < n) × (256 ≤ room)
-went_on end n room r e t =
-    let h = sym e ∙ t in
-    (ltb-true end n (both_left (ltb end n) (leb 256 room) h), leb-true 256 room (both_right (ltb end n) (leb 256 room) h))
-
--- no line ends any more, or there may be no room for its event
-pub stopped : (piece out : List ℕ) (i end at : ℕ) → Ends piece i end → (r : Bool) → r ≡ (ltb end (length piece) && leb 256 (length out - at)) → r ≡ false
-    → Stops piece out i at
-stopped piece out i end at e r q f k a l lf =
-    split (length out) (at + 256) (λ full. full)
-    (λ room. split k end (λ before. absurd (e.none k a before lf))
-    (λ after. not_both (simp (lt-ltb end (length piece) (omega arith), le-leb 256 (length out - at) (omega arith))) (sym q ∙ f)))
-
 -- what lines say after lines
 pub text_append : (rom : List ℕ) (xs : List (List ℕ)) (w : World) (b : List ℕ) (ys : List (List ℕ))
     → (audit_all rom w b (xs ++ ys)).text ≡ (audit_all rom w b xs).text ++ (audit_all rom (audit_all rom w b xs).world (audit_all rom w b xs).book ys).text

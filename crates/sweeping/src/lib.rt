@@ -3,7 +3,7 @@
 
 mod runs;
 
-ghost use Rattle.std.specs.Prelude.{◌≡◌, true, ◌&&◌, leb, ltb, length};
+ghost use Rattle.std.specs.Prelude.{◌≡◌, true, length};
 ghost use Rattle.layout.specs.Layout.{is_record, decoded};
 ghost use Rattle.session.specs.Session.{world};
 ghost use Rattle.sweeping.specs.Aside.{Sweeps, Stops, Settled};
@@ -18,16 +18,6 @@ use short::line_end;
 pub struct Swept {
     pub used: usize,
     pub written: usize,
-}
-
-// Whether a line ends in a piece, and there is room for its event.
-fn goes_on(end: usize, length: usize, room: usize) -> bool
-    ensures { result ≡ (ltb end length && leb 256 room) }
-{
-    if end < length {
-        return 256 <= room;
-    }
-    false
 }
 
 // Plays whole lines of a piece, each where it stands.
@@ -50,7 +40,7 @@ fn sweep(
     let mut at = 0;
     let mut i = 0;
     let mut end = line_end(piece, 0);
-    while goes_on(end, piece.len(), out.len() - at) {
+    while end < piece.len() && 256 <= out.len() - at {
         at = line_audited(book, state, rom, ram, store, image, &piece[i..end], out, at);
         let next = short_lines(book, state, rom, ram, store, image, piece, end + 1, out, at);
         i = next.used;
@@ -80,13 +70,7 @@ pub fn lines_audited(
         result.written
         × Settled state.old book.old piece.now out.old state.new result.used result.written }
 {
-    if book.len() != 13 {
-        return Swept {
-            used: 0,
-            written: 0,
-        };
-    }
-    if is_record(state) {
+    if book.len() == 13 && is_record(state) {
         return sweep(book, state, rom, ram, store, image, piece, out);
     }
     Swept {

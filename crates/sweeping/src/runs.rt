@@ -81,8 +81,7 @@ fn short_line(
         (world (decoded state.new) ram.new store.new image.new) book.new out.new result.used
         result.written × (is_record state.new ≡ true) }
 {
-    let kind = piece[from + 1];
-    match kind {
+    match piece[from + 1] {
         b'1' => line_of(book, state, rom, ram, store, image, piece, from, 6, out, at),
         b'2' => line_of(book, state, rom, ram, store, image, piece, from, 8, out, at),
         b'3' => line_of(

@@ -5,19 +5,10 @@ use lib.ListN.{length, get_or}
 use Rattle.short.proofs.line_end.Given as goal
 
 abbrev pub invariant-loop-k : goal.invariant-loop-k
-invariant-loop-k l = (l.k ≤ 8) × (l.i + 8 ≤ length l.piece) × ((j : ℕ) → l.from ≤ j → j < l.i + l.k → get_or l.piece j 0 ≡ 0x0A → ⊥)
-
-abbrev pub decreases-loop-k : goal.decreases-loop-k
-decreases-loop-k l = 8 - l.k
+invariant-loop-k l = (j : ℕ) → l.from ≤ j → j < l.i + l.k → get_or l.piece j 0 ≡ 0x0A → ⊥
 
 abbrev pub invariant-loop-i : goal.invariant-loop-i
 invariant-loop-i l = (l.from ≤ l.i) × (l.i ≤ length l.piece) × ((k : ℕ) → l.from ≤ k → k < l.i → get_or l.piece k 0 ≡ 0x0A → ⊥)
 
 abbrev pub decreases-loop-i : goal.decreases-loop-i
 decreases-loop-i l = length l.piece - l.i
-
-abbrev pub invariant-loop-i-2 : goal.invariant-loop-i-2
-invariant-loop-i-2 l = (l.from ≤ l.i) × (l.i ≤ length l.piece) × ((k : ℕ) → l.from ≤ k → k < l.i → get_or l.piece k 0 ≡ 0x0A → ⊥)
-
-abbrev pub decreases-loop-i-2 : goal.decreases-loop-i-2
-decreases-loop-i-2 l = length l.piece - l.i

@@ -11,14 +11,14 @@ bounds-state-4 c = omega (arith, long _ c.requires)
 pub bounds-state-13 : goal.bounds-state-13
 bounds-state-13 c = omega (arith, long _ c.requires)
 
-pub serial_at-serial-requires : goal.serial_at-serial-requires
-serial_at-serial-requires c = omega (arith, long _ c.requires)
+pub serial_at-requires : goal.serial_at-requires
+serial_at-requires c = omega (arith, long _ c.requires)
 
-pub four_at-elapsed-requires : goal.four_at-elapsed-requires
-four_at-elapsed-requires c = omega (arith, long _ c.requires)
+pub four_at-requires : goal.four_at-requires
+four_at-requires c = omega (arith, long _ c.requires)
 
 pub bounds-state-3 : goal.bounds-state-3
 bounds-state-3 c = omega (arith, long _ c.requires)
 
 pub returns : goal.returns
-returns c = let s = c.args.state.now in sight_is s _ _ _ (c.is_running-running.ensures ∙ running_at s) c.serial_at-serial.ensures c.four_at-elapsed.ensures
+returns c = let s = c.args.state.now in sight_is s _ _ _ _ (c.is_running.ensures ∙ running_at s) c.serial_at.ensures c.four_at.ensures c.takes_at.ensures
