@@ -2,7 +2,7 @@
 use mathlib.Core.Path.{◌≡◌, refl, sym, ap, ◌∙◌}
 use mathlib.Core.Bool.{true, false, not, ◌&&◌}
 use mathlib.Core.List.{List, [], ◌∷◌, ◌++◌}
-use Prim.Native.Nat.{ℕ, ◌+◌, ◌-◌, ◌/◌, ◌%◌, ◌<◌}
+use Prim.Native.Nat.{ℕ, ◌+◌, ◌-◌, ◌%◌, ◌<◌}
 use native.Mathlib.Nat.{zero-add, suc-add}
 use native.Mathlib.Omega.{arith}
 use lib.Dec.{eqb}
@@ -19,14 +19,15 @@ use Rattle.capture.specs.Capture.{running, moved}
 use Rattle.cartridge.specs.Bus.{registers_on, byte_read, ram_written, with_enabled, with_bank, with_select, with_register}
 use Rattle.cartridge.specs.Aside.{facing}
 use Rattle.cartridge.proofs.Facing.{faced_read, faced_write}
-use Rattle.layout.specs.Layout.{front, encoded, is_record, four_at, decoded, registers_at}
-use Rattle.layout.proofs.Inverse.{record_parts, encode_decode}
+use borrow.Rule.Slice.PartMut.{put_mid}
+use Rattle.layout.specs.Layout.{low_first, front, encoded, is_record, four_at, decoded, registers_at}
+use Rattle.layout.proofs.Inverse.{record_long, encode_decode}
 use Rattle.calls.specs.Aside.{effect, in_bytes}
 
 -- ---- what stands where
 
 pub long : (s : List ℕ) → is_record s ≡ true → length s ≡ 121
-long s h = (record_parts s h).long
+long s h = record_long s h
 
 -- the registers taken are all that stands from 67 on
 pub part_at : (s : List ℕ) → is_record s ≡ true → take (length s - 67) (drop 67 s) ≡ registers_at s 67
@@ -132,6 +133,6 @@ module _ (s : List ℕ) (bytes : Bytes s) (h : is_record s ≡ true) where
       ∙ ap (λ l. front c ++ l) (set-append_left c.registers c.taken i v (omega (arith, registers_long)))
 
   -- and those of the elapsed cycles
-  pub elapsed_set : (e : ℕ) → set (set (set (set s 5 (e % 256)) 6 (e / 256 % 256)) 7 (e / 65536 % 256)) 8 (e / 16777216 % 256) ≡ encoded (moved (decoded s) e)
+  pub elapsed_put : (e : ℕ) → put_mid 5 4 s (low_first e) ≡ encoded (moved (decoded s) e)
   unfolding encoded moved
-  elapsed_set e = ap (λ l. set (set (set (set l 5 (e % 256)) 6 (e / 256 % 256)) 7 (e / 65536 % 256)) 8 (e / 16777216 % 256)) same
+  elapsed_put e = ap (λ (l : List ℕ). put_mid 5 4 l (low_first e)) same

@@ -1,6 +1,6 @@
 // Reads, writes and ticks over the bytes of a record: each looks at the bytes that it asks for where they stand, and changes those alone that it must.
 // Only a start and the end of a capture, which change half of the record, have it read and written whole.
-#![tactic(auto)]
+#![tactic(auto, using(layout::proofs::Inverse::record_long))]
 
 ghost use Rattle.std.specs.Prelude.{◌≡◌, true, [], ◌<◌, ◌≤◌, length};
 ghost use Rattle.lighting.specs.Light.{byte_at};
@@ -15,20 +15,28 @@ ghost use Rattle.capture.specs.Calls.{tick_rows, ticked, tick_means};
 ghost use Rattle.capture.specs.Aside.{after};
 ghost use Rattle.cartridge.specs.Bus.{control_written, register_written, store_written, capture_written, byte_written};
 ghost use Rattle.cartridge.specs.Calls.{read_rows, read_means, wrote, write_rows, write_means};
-ghost use Rattle.layout.specs.Layout.{is_record, decoded, encoded};
+ghost use Rattle.layout.specs.Layout.{is_record, registers_at, decoded, encoded};
 ghost use Rattle.calls.specs.Aside.{effect, in_bytes};
 
 use capture::{Passed, at_end, is_running, lent_to_tick, pass};
 use cartridge::{
     byte_read, capture_write, is_start, lent_to_read, lent_to_write, ram_write, registers_on,
 };
+use controller::Refusal;
 use controller::judge::refused_if;
 use controller::state::can_exist;
-use controller::Refusal;
 use layout::{decode, encode, four_at};
 use timing::Cycles;
 
-// Whether the record can exist. The registers taken are lent with their number, which is then known where they are looked at.
+// The registers taken, with their number, which is then known where they are looked at.
+fn taken(state: &[u8]) -> &[u8; 54]
+    requires { is_record state.now ≡ true }
+    ensures { result.now ≡ registers_at state.now 67 }
+{
+    state[67..].try_into().unwrap()
+}
+
+// Whether the record can exist.
 fn exists(state: &[u8]) -> bool
     requires { is_record state.now ≡ true }
     ensures { result ≡ can_exist (decoded state.now) }
@@ -40,7 +48,7 @@ fn exists(state: &[u8]) -> bool
         state[13],
         state[4] == 1,
         elapsed,
-        state[67..121].try_into().unwrap(),
+        taken(state),
     )
 }
 
@@ -53,6 +61,7 @@ fn no_state(state: &[u8]) -> Result<(), Refusal>
 }
 
 // What a read was lent, judged.
+#[tactic(auto, using(layout::proofs::Inverse::record_long, controller::proofs::Judging::rows), unfolding(cartridge::specs::Calls::read_rows))]
 fn judge_read(state: &[u8], rom: &[u8], ram: &[u8], address: u16) -> Result<(), Refusal>
     requires { is_record state.now ≡ true }
     ensures { verdict_number result ≡ lowest (read_rows (decoded state.now) rom.now ram.now address) }
@@ -111,13 +120,7 @@ fn first_write(state: &mut [u8], store: &mut [u8], image: &[u8; 16384], value: u
 }
 
 // A write of a register: 1 to 53 are always writable, 54 to 127 ignore writes.
-fn register_write(
-    state: &mut [u8],
-    store: &mut [u8],
-    image: &[u8; 16384],
-    number: usize,
-    value: u8,
-)
+fn register_write(state: &mut [u8], store: &mut [u8], image: &[u8; 16384], number: usize, value: u8)
     requires { (is_record state.old ≡ true) × (length store.old ≡ 16384) }
     ensures { (state.new ≡ encoded (register_written (decoded state.old) number value))
         × (store.new ≡ store_written (decoded state.old) store.old image.now number value) }
@@ -150,13 +153,14 @@ fn byte_write(
     }
     let select = state[3];
     if registers_on(select) {
-        register_write(state, store, image, address as usize % 128, value);
+        register_write(state, store, image, usize::from(address) % 128, value);
         return;
     }
     ram_write(state[1] == 1, select, state[13], ram, address, value);
 }
 
 // What a write was lent, judged.
+#[tactic(auto, using(layout::proofs::Inverse::record_long, controller::proofs::Judging::rows), unfolding(cartridge::specs::Calls::write_rows))]
 fn judge_write(
     state: &[u8],
     ram: &[u8],
@@ -186,7 +190,8 @@ pub fn write(
         ≡ in_bytes (write_means (decoded state.old) ram.old store.old image.now address value) }
 {
     judge_write(state, ram, store, image, address)?;
-    byte_write(state, ram, store, image.try_into().unwrap(), address, value);
+    let image: &[u8; 16384] = image.try_into().unwrap();
+    byte_write(state, ram, store, image, address, value);
     Ok(())
 }
 
@@ -195,18 +200,14 @@ fn leave(state: &mut [u8], passed: Passed)
     requires { is_record state.old ≡ true }
     ensures { state.new ≡ encoded (after passed.elapsed (decoded state.old)) }
 {
-    let Some(elapsed) = passed.elapsed else {
-        encode(at_end(decode(state)), state);
-        return;
-    };
-    let e = elapsed.0;
-    state[5] = (e % 256) as u8;
-    state[6] = (e / 256 % 256) as u8;
-    state[7] = (e / 65536 % 256) as u8;
-    state[8] = (e / 16777216 % 256) as u8;
+    match passed.elapsed {
+        Some(elapsed) => state[5..9].copy_from_slice(&elapsed.0.to_le_bytes()),
+        None => encode(at_end(decode(state)), state),
+    }
 }
 
 // What a tick was lent, judged.
+#[tactic(auto, using(layout::proofs::Inverse::record_long, controller::proofs::Judging::rows), unfolding(capture::specs::Calls::tick_rows))]
 pub fn judge_tick(state: &[u8], ram: &[u8], store: &[u8]) -> Result<(), Refusal>
     requires { is_record state.now ≡ true }
     ensures { verdict_number result ≡ lowest (tick_rows (decoded state.now) ram.now store.now) }
@@ -231,7 +232,7 @@ pub fn run(state: &mut [u8], ram: &mut [u8], store: &[u8; 16384], n: u32) -> u32
         ≡ in_bytes (ticked store.now (ticks (byte_at store.now) n (from (decoded state.old) ram.old))) }
 {
     let elapsed = Cycles(four_at(state, 5));
-    let passed = pass(state[67..].try_into().unwrap(), elapsed, ram, store, n);
+    let passed = pass(taken(state), elapsed, ram, store, n);
     leave(state, passed);
     passed.ran
 }
@@ -246,5 +247,6 @@ pub fn tick(state: &mut [u8], ram: &mut [u8], store: &[u8], n: u32) -> Result<Cy
     if !runs(state) {
         return Ok(Cycles(0));
     }
-    Ok(Cycles(run(state, ram, store.try_into().unwrap(), n)))
+    let store: &[u8; 16384] = store.try_into().unwrap();
+    Ok(Cycles(run(state, ram, store, n)))
 }

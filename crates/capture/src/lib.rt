@@ -4,7 +4,7 @@
 ghost use Rattle.std.specs.Prelude.{◌≡◌, Bool, true, false, ◌&&◌, List, [], ◌∷◌, ℕ, ◌+◌, ◌*◌, ◌/◌, ◌%◌, ◌<◌, ◌≤◌, length, get_or};
 ghost use Rattle.lighting.specs.Light.{byte_at};
 ghost use Rattle.timing.specs.Timing.{total_of};
-ghost use Rattle.capture.specs.Capture.{moved, ended, running, ticks, from};
+ghost use Rattle.capture.specs.Capture.{ended, running, ticks, from};
 ghost use Rattle.controller.specs.Outcome.{verdict_number, outcome, tick_outcome};
 ghost use Rattle.controller.specs.State.{started};
 ghost use Rattle.controller.specs.Table.{lowest};
@@ -17,32 +17,15 @@ use controller::state::one_more;
 use controller::{Controller, Refusal, TickDone};
 use timing::{Cycles, total, write_between};
 
-// A byte with its bit 0 clear.
-fn even(b: u8) -> u8
-    ensures { result ≡ b / 2 * 2 }
-{
-    b / 2 * 2
-}
-
-// The state at a number of elapsed cycles.
-fn moved_to(mut state: Controller, elapsed: Cycles) -> Controller
-    ensures { result ≡ moved state elapsed.0 }
-{
-    state.elapsed = elapsed;
-    state
-}
-
 // The state as its capture ends: register 0 bit 0 clears, nothing is held or taken; one more has ended.
+#[tactic(auto, unfolding(crate::specs::Capture::ended))]
 pub fn at_end(mut state: Controller) -> Controller
     ensures { result ≡ ended state }
 {
-    let first = even(state.registers[0]);
-    state.registers[0] = first;
+    state.registers[0] = state.registers[0] / 2 * 2;
     state.held = false;
-    let none = [0u8; 54];
-    state.taken = none;
-    let start = Cycles(0);
-    state.elapsed = start;
+    state.taken = [0; 54];
+    state.elapsed = Cycles(0);
     state.ended = one_more(state.ended);
     state
 }
@@ -51,10 +34,7 @@ pub fn at_end(mut state: Controller) -> Controller
 pub fn is_running(held: bool, first: u8) -> bool
     ensures { result ≡ (held && started (first ∷ [])) }
 {
-    if !held {
-        return false;
-    }
-    first % 2 == 1
+    held && first % 2 == 1
 }
 
 // The answer to a tick of which n cycles fell while a capture was running.
@@ -113,12 +93,13 @@ fn run(state: Controller, ram: &mut [u8], store: &[u8; 16384], n: u32) -> TickDo
     let taken = state.taken;
     let passed = pass(&taken, state.elapsed, ram, store, n);
     match passed.elapsed {
-        Some(elapsed) => ran(moved_to(state, elapsed), passed.ran),
+        Some(elapsed) => ran(Controller { elapsed, ..state }, passed.ran),
         None => ran(at_end(state), passed.ran),
     }
 }
 
 // What a tick was lent, judged: all but the state.
+#[tactic(auto, using(controller::proofs::Judging::rows))]
 pub fn lent_to_tick(ram: &[u8], store: &[u8]) -> Result<(), Refusal>
     ensures { verdict_number result ≡ lowest (lent_to_tick ram.now store.now) }
 {
@@ -127,6 +108,7 @@ pub fn lent_to_tick(ram: &[u8], store: &[u8]) -> Result<(), Refusal>
 }
 
 // What a tick was lent, judged.
+#[tactic(auto, using(controller::proofs::Judging::rows), unfolding(crate::specs::Calls::tick_rows))]
 fn judge_tick(state: Controller, ram: &[u8], store: &[u8]) -> Result<(), Refusal>
     ensures { verdict_number result ≡ lowest (tick_rows state ram.now store.now) }
 {
@@ -148,5 +130,6 @@ pub fn tick(state: Controller, ram: &mut [u8], store: &[u8], n: u32) -> TickDone
     if !is_running(state.held, state.registers[0]) {
         return ran(state, 0);
     }
-    run(state, ram, store.try_into().unwrap(), n)
+    let store: &[u8; 16384] = store.try_into().unwrap();
+    run(state, ram, store, n)
 }

@@ -6,7 +6,7 @@ ghost use Rattle.timing.specs.Lent.{rom_allowed, ram_allowed};
 ghost use Rattle.controller.specs.declared.Controller.{Controller};
 ghost use Rattle.controller.specs.State.{started};
 ghost use Rattle.controller.specs.Outcome.{verdict_number, read_outcome, write_outcome};
-ghost use Rattle.cartridge.specs.Bus.{registers_on, register_read, ram_read, rom_read, byte_read};
+ghost use Rattle.cartridge.specs.Bus.{registers_on, register_read, ram_read, rom_read, byte_read, ram_place};
 ghost use Rattle.cartridge.specs.Bus.{enable, control_written, is_start, capture_written, register_written, store_written, ram_written, byte_written};
 ghost use Rattle.cartridge.specs.Bus.{Left, left};
 ghost use Rattle.capture.specs.Capture.{begun};
@@ -44,6 +44,15 @@ fn register_read(first: u8, address: u16) -> u8
     0
 }
 
+// Where the byte of an address stands in RAM, in the bank of select.
+fn ram_place(select: u8, ram: &[u8], address: u16) -> usize
+    requires { ram_allowed (length ram.now) ≡ true }
+    ensures { (result ≡ ram_place (facing false 0 select 0) ram.now address) × (result < length ram.now) }
+{
+    bank_place(select % 16, ram.len(), Controller::RAM_BANK)
+        + usize::from(address) % Controller::RAM_BANK
+}
+
 // A RAM read: 00 while register 0 has bit 0 set.
 fn ram_read(select: u8, first: u8, ram: &[u8], address: u16) -> u8
     requires { ram_allowed (length ram.now) ≡ true }
@@ -52,9 +61,7 @@ fn ram_read(select: u8, first: u8, ram: &[u8], address: u16) -> u8
     if busy(first) {
         return 0;
     }
-    let at = bank_place(select % 16, ram.len(), Controller::RAM_BANK)
-        + address as usize % Controller::RAM_BANK;
-    ram[at]
+    ram[ram_place(select, ram, address)]
 }
 
 // A ROM read: bank 0 below 4000, the ROM bank above.
@@ -63,10 +70,10 @@ fn rom_read(bank: u8, rom: &[u8], address: u16) -> u8
     ensures { result ≡ rom_read (facing false bank 0 0) rom.now address }
 {
     if address < 0x4000 {
-        return rom[address as usize];
+        return rom[usize::from(address)];
     }
     let at = bank_place(bank, rom.len(), Controller::ROM_BANK)
-        + address as usize % Controller::ROM_BANK;
+        + usize::from(address) % Controller::ROM_BANK;
     rom[at]
 }
 
@@ -85,6 +92,7 @@ pub fn byte_read(bank: u8, select: u8, first: u8, rom: &[u8], ram: &[u8], addres
 }
 
 // What a read was lent, judged: all but the state.
+#[tactic(auto, using(controller::proofs::Judging::rows))]
 pub fn lent_to_read(rom: &[u8], ram: &[u8], address: u16) -> Result<(), Refusal>
     ensures { verdict_number result ≡ lowest (lent_to_read rom.now ram.now address) }
 {
@@ -94,6 +102,7 @@ pub fn lent_to_read(rom: &[u8], ram: &[u8], address: u16) -> Result<(), Refusal>
 }
 
 // What a read was lent, judged.
+#[tactic(auto, using(controller::proofs::Judging::rows), unfolding(crate::specs::Calls::read_rows))]
 fn judge_read(state: Controller, rom: &[u8], ram: &[u8], address: u16) -> Result<(), Refusal>
     ensures { verdict_number result ≡ lowest (read_rows state rom.now ram.now address) }
 {
@@ -162,10 +171,7 @@ fn enable_write(mut state: Controller, value: u8) -> Controller
 pub fn is_start(held: bool, value: u8) -> bool
     ensures { (c : Controller) → c.held ≡ held → result ≡ is_start c value }
 {
-    if value % 2 == 1 {
-        return !held;
-    }
-    false
+    value % 2 == 1 && !held
 }
 
 // A start: the registers are taken, the new register 0 with them; one more has started.
@@ -173,11 +179,9 @@ fn begin(mut state: Controller, value: u8) -> Controller
     ensures { result ≡ begun state value }
 {
     state.registers[0] = value;
-    let taken = state.registers;
-    state.taken = taken;
+    state.taken = state.registers;
     state.held = true;
-    let none = Cycles(0);
-    state.elapsed = none;
+    state.elapsed = Cycles(0);
     state.started = one_more(state.started);
     state
 }
@@ -235,8 +239,7 @@ pub fn ram_write(enabled: bool, select: u8, first: u8, ram: &mut [u8], address: 
     if !enabled {
         return;
     }
-    let at = bank_place(select % 16, ram.len(), Controller::RAM_BANK)
-        + address as usize % Controller::RAM_BANK;
+    let at = ram_place(select, ram, address);
     ram[at] = value;
 }
 
@@ -257,7 +260,7 @@ fn byte_write(
         return control_write(state, address, value);
     }
     if registers_on(state.select) {
-        return register_write(state, store, image, address as usize % 128, value);
+        return register_write(state, store, image, usize::from(address) % 128, value);
     }
     ram_write(
         state.enabled,
@@ -271,6 +274,7 @@ fn byte_write(
 }
 
 // What a write was lent, judged: all but the state.
+#[tactic(auto, using(controller::proofs::Judging::rows))]
 pub fn lent_to_write(ram: &[u8], store: &[u8], image: &[u8], address: u16) -> Result<(), Refusal>
     ensures { verdict_number result ≡ lowest (lent_to_write ram.now store.now image.now address) }
 {
@@ -281,6 +285,7 @@ pub fn lent_to_write(ram: &[u8], store: &[u8], image: &[u8], address: u16) -> Re
 }
 
 // What a write was lent, judged.
+#[tactic(auto, using(controller::proofs::Judging::rows), unfolding(crate::specs::Calls::write_rows))]
 fn judge_write(
     state: Controller,
     ram: &[u8],
@@ -312,7 +317,8 @@ pub fn write(
             answer: Err(why),
         };
     }
-    let next = byte_write(state, ram, store, image.try_into().unwrap(), address, value);
+    let image: &[u8; 16384] = image.try_into().unwrap();
+    let next = byte_write(state, ram, store, image, address, value);
     WriteDone {
         state: next,
         answer: Ok(()),

@@ -8,6 +8,7 @@ use lib.Dec.{eqb, leb}
 use lib.ListN.{length, get_or, take, drop, length-append, length-drop, take-append-drop}
 use lib.Seq.{take_at, drop_at, take_all, drop-drop, drop-cons}
 use borrow.Author.Tests.{eqb-true, leb-true, eq-eqb, ne_eqb}
+use Rattle.std.proofs.lemmas.Nat.{from_le_bytes-to_le_bytes_4, le_bytes_4}
 use Rattle.controller.specs.declared.Controller.{Controller}
 use Rattle.tiles.specs.Tiles.{Bytes}
 use Rattle.laws.proofs.Bools.{both_left, both_right}
@@ -30,29 +31,22 @@ flag_of (suc (suc x)) h = absurd (omega arith)
 
 -- ---- a number of 32 bits
 
--- a number by its lowest byte and the rest
-low : (a m : ℕ) → a < 256 → (a + 256 * m) % 256 ≡ a
-low a m h = omega arith
-
-sum_up : (n m k l x y z : ℕ) → n ≡ x + 256 * m → m ≡ y + 256 * k → k ≡ z + 256 * l → x + 256 * y + 65536 * z + 16777216 * l ≡ n
-sum_up n m k l x y z p q r = omega arith
-
 -- its bytes make it up again
 pub bytes_back : (n : ℕ) → n < 4294967296 → n % 256 + 256 * (n / 256 % 256) + 65536 * (n / 65536 % 256) + 16777216 * (n / 16777216 % 256) ≡ n
 bytes_back n h =
-    let top : n / 16777216 % 256 ≡ n / 16777216 = omega arith in
-    ap (λ t. n % 256 + 256 * (n / 256 % 256) + 65536 * (n / 65536 % 256) + 16777216 * t) top
-    ∙ sum_up n (n / 256) (n / 65536) (n / 16777216) (n % 256) (n / 256 % 256) (n / 65536 % 256) (omega arith) (omega arith) (omega arith)
+    let e : n % 256 + n / 256 % 256 * 256 + n / 65536 % 256 * 65536 + n / 16777216 % 256 * 16777216 ≡ n = from_le_bytes-to_le_bytes_4 n h in
+    omega arith
 
 -- the bytes of what four bytes make up
 pub bytes_of : (a b c d : ℕ) → a < 256 → b < 256 → c < 256 → d < 256 → low_first (a + 256 * b + 65536 * c + 16777216 * d) ≡ a ∷ b ∷ c ∷ d ∷ []
-bytes_of a b c d ha hb hc hd =
-    let n = a + 256 * b + 65536 * c + 16777216 * d in
-    let p : n % 256 ≡ a = omega arith in
-    let q : n / 256 ≡ b + 256 * (c + 256 * d) = omega arith in
-    let r : n / 65536 ≡ c + 256 * d = omega arith in
-    let s : n / 16777216 ≡ d + 256 * 0 = omega arith in
-    λ i. p i ∷ (ap (λ t. t % 256) q ∙ low b (c + 256 * d) hb) i ∷ (ap (λ t. t % 256) r ∙ low c d hc) i ∷ (ap (λ t. t % 256) s ∙ low d 0 hd) i ∷ []
+bytes_of a b c d ha hb hc hd = le_bytes_4 (a ∷ b ∷ c ∷ d ∷ []) _ refl small (omega arith)
+  where
+    small : (i : ℕ) → get_or (a ∷ b ∷ c ∷ d ∷ []) i 0 < 256
+    small zero = ha
+    small (suc zero) = hb
+    small (suc (suc zero)) = hc
+    small (suc (suc (suc zero))) = hd
+    small (suc (suc (suc (suc i)))) = omega arith
 
 -- ---- a number of 16 bits
 
@@ -62,8 +56,8 @@ two_back n h = omega arith
 two_of : (a b : ℕ) → a < 256 → b < 256 → two_low_first (a + 256 * b) ≡ a ∷ b ∷ []
 two_of a b ha hb =
     let p : (a + 256 * b) % 256 ≡ a = omega arith in
-    let q : (a + 256 * b) / 256 ≡ b + 256 * 0 = omega arith in
-    λ i. p i ∷ (ap (λ t. t % 256) q ∙ low b 0 hb) i ∷ []
+    let q : (a + 256 * b) / 256 % 256 ≡ b = omega arith in
+    λ i. p i ∷ q i ∷ []
 
 -- ---- a record written and read back
 
@@ -156,6 +150,9 @@ record_parts s h =
       enabled = leb-true _ _ (both_left e d rest);
       held = leb-true _ _ (both_right e d rest);
     }
+
+pub record_long : (s : List ℕ) → is_record s ≡ true → length s ≡ 121
+record_long s h = (record_parts s h).long
 
 -- Other layout: bytes that begin with another number than the layout's are no record, however many they are
 pub other_layout : (s : List ℕ) → (get_or s 0 0 ≡ layout_number → ⊥) → is_record s ≡ false

@@ -14,30 +14,22 @@ const LAYOUT: u8 = 3;
 pub const STATE_LEN: usize = 121;
 
 // Whether bytes are a record: as many as it has, of this layout, and its two flags 0 or 1.
+// The functions over a record's bytes take them as a slice and say so by a clause: C lends the bytes, and with a struct around a lent `&mut [u8]`
+// each theorem over their list would speak of what is behind a field.
+#[tactic(auto, unfolding(crate::specs::Layout::is_record))]
 pub fn is_record(state: &[u8]) -> bool
     ensures { result ≡ is_record state.now }
 {
-    if state.len() != STATE_LEN {
-        return false;
-    }
-    if state[0] != LAYOUT {
-        return false;
-    }
-    if 1 < state[1] {
-        return false;
-    }
-    state[4] <= 1
+    state.len() == STATE_LEN && state[0] == LAYOUT && state[1] <= 1 && state[4] <= 1
 }
 
 // Four bytes from a place on as one number, the lowest first.
+#[tactic(auto, unfolding(crate::specs::Layout::four_at))]
 pub fn four_at(state: &[u8], at: usize) -> u32
     requires { at + 4 ≤ length state.now }
     ensures { result ≡ four_at state.now at }
 {
-    u32::from(state[at])
-        + 256 * u32::from(state[at + 1])
-        + 65536 * u32::from(state[at + 2])
-        + 16777216 * u32::from(state[at + 3])
+    u32::from_le_bytes(state[at..at + 4].try_into().unwrap())
 }
 
 // Two bytes from a place on as one number, the lowest first.
@@ -45,7 +37,7 @@ fn two_at(state: &[u8], at: usize) -> u16
     requires { at + 2 ≤ length state.now }
     ensures { result ≡ two_at state.now at }
 {
-    u16::from(state[at]) + 256 * u16::from(state[at + 1])
+    u16::from_le_bytes(state[at..at + 2].try_into().unwrap())
 }
 
 // 54 bytes from a place on.
@@ -53,77 +45,44 @@ fn registers_at(state: &[u8], at: usize) -> [u8; 54]
     requires { at + 54 ≤ length state.now }
     ensures { result ≡ registers_at state.now at }
 {
-    let mut out = [0u8; 54];
-    for i in 0..54 {
-        out[i] = state[at + i];
-    }
-    out
+    state[at..at + 54].try_into().unwrap()
 }
 
 // The record of its bytes.
+#[tactic(auto, using(crate::proofs::Inverse::record_long), unfolding(crate::specs::Layout::decoded))]
 pub fn decode(state: &[u8]) -> Controller
     requires { is_record state.now ≡ true }
     ensures { result ≡ decoded state.now }
 {
-    let registers = registers_at(state, 13);
-    let taken = registers_at(state, 67);
-    let elapsed = Cycles(four_at(state, 5));
-    let started = two_at(state, 9);
-    let ended = two_at(state, 11);
     Controller {
         enabled: state[1] == 1,
         bank: state[2],
         select: state[3],
-        registers,
+        registers: registers_at(state, 13),
         held: state[4] == 1,
-        taken,
-        elapsed,
-        started,
-        ended,
+        taken: registers_at(state, 67),
+        elapsed: Cycles(four_at(state, 5)),
+        started: two_at(state, 9),
+        ended: two_at(state, 11),
     }
 }
 
-// Writes the record's first 13 bytes: layout number, flags, banks, elapsed cycles, captures started and ended.
-fn put_front(c: Controller, state: &mut [u8])
-    requires { 13 ≤ length state.old }
-    ensures { state.new ≡ front c ++ drop 13 state.old }
-{
-    let e = c.elapsed.0;
-    let m = c.started;
-    let n = c.ended;
-    state[0] = LAYOUT;
-    state[1] = c.enabled as u8;
-    state[2] = c.bank;
-    state[3] = c.select;
-    state[4] = c.held as u8;
-    state[5] = (e % 256) as u8;
-    state[6] = (e / 256 % 256) as u8;
-    state[7] = (e / 65536 % 256) as u8;
-    state[8] = (e / 16777216 % 256) as u8;
-    state[9] = (m % 256) as u8;
-    state[10] = (m / 256 % 256) as u8;
-    state[11] = (n % 256) as u8;
-    state[12] = (n / 256 % 256) as u8;
-}
-
-// Writes 54 bytes from a place on.
-fn put_registers(state: &mut [u8], at: usize, registers: [u8; 54])
-    requires { at + 54 ≤ length state.old }
-    ensures { state.new ≡ take at state.old ++ (registers ++ drop (at + 54) state.old) }
-{
-    for i in 0..54 {
-        state[at + i] = registers[i];
-    }
-}
-
-// Writes a record as its bytes.
+// Writes a record as its bytes: layout number, flags and banks, elapsed cycles, captures started and ended, registers, registers taken.
 pub fn encode(c: Controller, state: &mut [u8])
     requires { length state.old ≡ 121 }
     ensures { state.new ≡ encoded c }
 {
-    put_front(c, state);
-    let registers = c.registers;
-    put_registers(state, 13, registers);
-    let taken = c.taken;
-    put_registers(state, 67, taken);
+    let first = [
+        LAYOUT,
+        u8::from(c.enabled),
+        c.bank,
+        c.select,
+        u8::from(c.held),
+    ];
+    state[..5].copy_from_slice(&first);
+    state[5..9].copy_from_slice(&c.elapsed.0.to_le_bytes());
+    state[9..11].copy_from_slice(&c.started.to_le_bytes());
+    state[11..13].copy_from_slice(&c.ended.to_le_bytes());
+    state[13..67].copy_from_slice(&c.registers);
+    state[67..].copy_from_slice(&c.taken);
 }

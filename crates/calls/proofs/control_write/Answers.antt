@@ -1,8 +1,7 @@
 -- `calls::control_write` meets its contract: each byte that it changes. Assumes nothing.
-use native.Mathlib.Omega.{arith}
 use borrow.Author.Tests.{eq-eqb, ne_eqb, lt-ltb, le-ltb}
 use Rattle.cartridge.specs.Bus.{control_written}
-use Rattle.calls.proofs.Bytes.{long, same, enabled_set, disabled_set, bank_set, select_set}
+use Rattle.calls.proofs.Bytes.{same, enabled_set, disabled_set, bank_set, select_set}
 use Rattle.calls.proofs.control_write.Goals as goal
 
 pub returns-then-value-eq10 : goal.returns-then-value-eq10
@@ -40,15 +39,3 @@ unfolding control_written
 returns-else-address-lt24576 c =
     let p = c.requires in
     simp (le-ltb _ _ c.if-address-lt8192.false, le-ltb _ _ c.if-address-lt16384.false, le-ltb _ _ c.if-address-lt24576.false) (same _ p.1 p.0)
-
-pub bounds-state-1 : goal.bounds-state-1
-bounds-state-1 c = omega (arith, long _ c.requires.0)
-
-pub bounds-state-1-then-value-eq0 : goal.bounds-state-1-then-value-eq0
-bounds-state-1-then-value-eq0 c = omega (arith, long _ c.requires.0)
-
-pub bounds-state-2 : goal.bounds-state-2
-bounds-state-2 c = omega (arith, long _ c.requires.0)
-
-pub bounds-state-3 : goal.bounds-state-3
-bounds-state-3 c = omega (arith, long _ c.requires.0)

@@ -1,10 +1,11 @@
 -- `calls::first_write` meets its contract: a start is the record read, begun and written whole; else one byte. Assumes nothing.
+use borrow.Author.Rules.{rules}
 use mathlib.Core.Path.{sym, ap, ◌∙◌}
 use native.Mathlib.Omega.{arith}
 use Rattle.controller.specs.declared.Controller.{Controller}
 use Rattle.cartridge.specs.Bus.{capture_written, store_written}
 use Rattle.layout.specs.Layout.{decoded, encoded}
-use Rattle.calls.proofs.Bytes.{long, held_at, register_set}
+use Rattle.calls.proofs.Bytes.{held_at, register_set}
 use Rattle.calls.proofs.first_write.Goals as goal
 
 pub returns-then-is_start : goal.returns-then-is_start
@@ -18,19 +19,7 @@ pub returns : goal.returns
 unfolding capture_written store_written
 returns c =
     let none = sym (c.is_start.ensures (decoded c.args.state.now) (held_at c.args.state.now)) ∙ c.if-is_start.false in
-    (simp none (register_set _ (λ i. (c.slice_known-1.given i).fits) c.requires.0 0 _ (omega arith)), simp none)
-
-pub bounds-state-4 : goal.bounds-state-4
-bounds-state-4 c = omega (arith, long _ c.requires.0)
-
-pub decode-requires : goal.decode-requires
-decode-requires c = c.requires.0
+    (simp none (register_set _ (λ i. search rules) c.requires.0 0 _ (omega arith)), simp none)
 
 pub capture_write-next-requires : goal.capture_write-next-requires
-capture_write-next-requires c = (c.requires.1, c.requires.2)
-
-pub encode-requires : goal.encode-requires
-encode-requires c = long _ c.requires.0
-
-pub bounds-state-13 : goal.bounds-state-13
-bounds-state-13 c = omega (arith, long _ c.requires.0)
+capture_write-next-requires c = c.requires.1

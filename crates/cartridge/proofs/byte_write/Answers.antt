@@ -12,7 +12,7 @@ pub returns-then-registers_on : goal.returns-then-registers_on
 returns-then-registers_on c =
     let a = c.args in
     let w = c.register_write in
-    register_left a.state a.ram.now a.store.now a.image.now a.address a.value w.result w.new.store c.if-address-lt32768.false (sym c.registers_on.ensures ∙ c.if-registers_on.true) w.ensures
+    register_left a.state a.ram.now a.store.now a.image.now a.address a.value w.result w.new.store c.if-address-lt32768.false (sym c.registers_on.ensures ∙ c.if-registers_on.true) (rw c.from.ensures at w.ensures)
 
 pub returns : goal.returns
 returns c =

@@ -1,17 +1,16 @@
 -- `cartridge::rom_read` meets its contract. Assumes nothing.
-use Rattle.cartridge.specs.Bus.{rom_read}
-use lib.ListN.{length}
-use Rattle.timing.proofs.Lent.{banks, rom_lent, rom_inside}
-use native.Mathlib.Omega.{arith}
+use Rattle.std.proofs.Common.{length, arith}
 use borrow.Author.Tests.{lt-ltb, le-ltb}
+use Rattle.timing.proofs.Lent.{banks, rom_lent, rom_inside}
+use Rattle.cartridge.specs.Bus.{rom_read}
 use Rattle.cartridge.proofs.rom_read.Goals as goal
 
-pub bounds-rom-address : goal.bounds-rom-address
-bounds-rom-address c = omega (arith, rom_lent (length c.args.rom.now) c.requires.0)
+pub bounds-rom-from : goal.bounds-rom-from
+bounds-rom-from c = omega (arith, rom_lent (length c.args.rom.now) c.requires.0)
 
 pub returns-then-address-lt16384 : goal.returns-then-address-lt16384
 unfolding rom_read
-returns-then-address-lt16384 c = simp (lt-ltb _ _ c.if-address-lt16384.true)
+returns-then-address-lt16384 c = simp (lt-ltb _ _ c.if-address-lt16384.true, c.from.ensures)
 
 pub bank_place-requires : goal.bank_place-requires
 bank_place-requires c =
@@ -24,4 +23,4 @@ bounds-rom-at c =
 
 pub returns : goal.returns
 unfolding rom_read
-returns c = simp (le-ltb _ _ c.if-address-lt16384.false, c.bank_place.ensures)
+returns c = simp (le-ltb _ _ c.if-address-lt16384.false, c.bank_place.ensures, c.from-2.ensures)
