@@ -23,19 +23,17 @@ fn shown_at(plain: bool, k: usize) -> usize
     requires { k ≤ 47 }
     ensures { (result ≡ shown plain k) × (result ≤ 47) }
 {
-    if plain {
-        return k % 3;
-    }
-    k
+    if plain { k % 3 } else { k }
 }
 
 // The registers with the exposure stored, the high byte first.
 fn put_exposure(regs: [u8; 54], steps: u16) -> [u8; 54]
     ensures { result ≡ timed regs steps }
 {
+    let [high, low] = steps.to_be_bytes();
     let mut out = regs;
-    out[2] = (steps / 256) as u8;
-    out[3] = (steps % 256) as u8;
+    out[2] = high;
+    out[3] = low;
     out
 }
 
@@ -45,6 +43,7 @@ fn put_matrix(regs: [u8; 54], table: &[u8; 1536], from: usize, plain: bool) -> [
     ensures { result ≡ stored regs 6 (λ k. get_or table.now (from + shown plain k) 0) 48 }
 {
     let mut out = regs;
+    // No plainer: after an adapter of `iter_mut` a proof knows nothing of what was written.
     for k in 0..48 {
         out[6 + k] = table[from + shown_at(plain, k)];
     }
@@ -65,13 +64,11 @@ fn put_choice(regs: [u8; 54], light: u8, level: u8, plain: bool, exposure: Optio
 fn is_beyond(light: u8, level: u8) -> bool
     ensures { result ≡ beyond light level }
 {
-    if 1 < light {
-        return true;
-    }
-    15 < level
+    1 < light || 15 < level
 }
 
 // A choice, judged: 1, then 9.
+#[tactic(auto, using(controller::proofs::Judging::rows), unfolding(crate::specs::Choice::choose_rows))]
 fn judge_choice(state: Controller, light: u8, level: u8) -> Result<(), Refusal>
     ensures { verdict_number result ≡ lowest (choose_rows state light level) }
 {
@@ -89,12 +86,9 @@ pub fn choose(state: Controller, light: u8, level: u8, plain: bool, exposure: Op
             answer: Err(why),
         };
     }
-    let given = state.registers;
-    let registers = put_choice(given, light, level, plain, exposure);
-    let mut next = state;
-    next.registers = registers;
+    let registers = put_choice(state.registers, light, level, plain, exposure);
     WriteDone {
-        state: next,
+        state: Controller { registers, ..state },
         answer: Ok(()),
     }
 }

@@ -7,7 +7,7 @@ use super::choice::{Chosen, choose};
 use controller::Controller;
 
 // A choice as it is stored.
-#[derive(Clone, Copy)]
+#[derive(Clone, Copy, Debug, PartialEq, Eq)]
 pub struct Stored {
     pub light: u8,
     pub level: u8,
@@ -53,7 +53,6 @@ impl Stored {
     pub fn choose(self, state: Controller) -> Chosen
         ensures { write_outcome result [] [] ≡ stored_means state self }
     {
-        let exposure = self.exposure;
-        choose(state, self.light, self.level, self.plain, exposure)
+        choose(state, self.light, self.level, self.plain, self.exposure)
     }
 }

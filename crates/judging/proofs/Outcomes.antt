@@ -15,7 +15,8 @@ use Rattle.controller.proofs.Only.{only_number, some_number}
 use Rattle.controller.proofs.Refusals.{Refuses, refuses, rising_from, first_fails, picture_refuses}
 use Rattle.std.specs.declared.result.Result.{Result}
 use Rattle.controller.specs.declared.Refusal.{Refusal}
-use Rattle.std.specs.Prelude.{Ok, Err}
+use Rattle.std.specs.Prelude.{⊤, Ok, Err}
+use Rattle.controller.specs.Outcome.{verdict_number}
 use Rattle.judging.specs.Judging.{row_judged, rows_equal, afresh_of, Judging, judging, answered, judged_by, judge_rows, judge_means}
 
 -- none of no rows, and one row more
@@ -51,6 +52,13 @@ unfolding picture_rows lowest
 drawn frame regs out picture n f e =
     let z : lowest (picture_rows frame) ≡ 0 = rw f in
     (λ i. (e i).bytes) ∙ (λ i. ((picture_refuses frame regs out).does z i).bytes)
+
+-- and drawing it is not refused
+pub drawn_fits : (frame regs out picture : List ℕ) (v : Result ⊤ Refusal) (why : Refusal) → frame_allowed (length frame) ≡ true → afresh (verdict_number v) picture ≡ picture_means frame regs out → v ≡ Err why → ⊥
+unfolding picture_rows lowest
+drawn_fits frame regs out picture v why f e w =
+    let z : lowest (picture_rows frame) ≡ 0 = rw f in
+    some_number why (sym ((λ i. (e i).number) ∙ (λ i. ((picture_refuses frame regs out).does z i).number)) ∙ ap verdict_number w)
 
 -- rows judged by it
 pub judged_rows : (plate picture picture' rows part : List ℕ) (equal : ℕ) → picture ≡ picture' → part ≡ listed (row_judged plate picture) 112 → equal ≡ rows_equal plate picture 112

@@ -59,6 +59,7 @@ fn judge_rows(plate: &[u8; 3584], picture: &[u8; 3584], rows: &mut [u8]) -> u32
 }
 
 // What a judging was lent, judged: 4, then 7.
+#[tactic(auto, using(controller::proofs::Judging::rows), unfolding(crate::specs::Judging::judge_rows))]
 fn judge_lent(frame: &[u8], rows: &[u8]) -> Result<(), Refusal>
     ensures { verdict_number result ≡ lowest (judge_rows frame.now rows.now) }
 {
@@ -67,7 +68,12 @@ fn judge_lent(frame: &[u8], rows: &[u8]) -> Result<(), Refusal>
 }
 
 // Judges a plate by a frame and the registers taken, row by row, into a lent buffer, whose later bytes stay: how many rows are equal.
-pub fn judge(plate: &[u8; 3584], frame: &[u8], registers: [u8; 54], rows: &mut [u8]) -> Result<u32, Refusal>
+pub fn judge(
+    plate: &[u8; 3584],
+    frame: &[u8],
+    registers: [u8; 54],
+    rows: &mut [u8],
+) -> Result<u32, Refusal>
     ensures { answered result rows.new ≡ judge_means plate.now frame.now registers rows.old }
 {
     judge_lent(frame, rows)?;

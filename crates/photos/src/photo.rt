@@ -6,8 +6,8 @@ ghost use Rattle.controller.specs.Table.{lowest};
 ghost use Rattle.photos.specs.Photo.{value_of, is_photo, import_rows, imported, import_means};
 
 use super::header::is_header;
-use controller::judge::{no_frame, refused_if};
 use controller::Refusal;
+use controller::judge::{no_frame, refused_if};
 
 // The bytes of the pixels, three each, and the longest header.
 const PIXELS: usize = 49152;
@@ -46,6 +46,7 @@ fn is_photo(file: &[u8]) -> bool
 }
 
 // What an import was lent, judged.
+#[tactic(auto, using(controller::proofs::Judging::rows), unfolding(crate::specs::Photo::import_rows))]
 fn judge_import(file: &[u8], image: &[u8]) -> Result<(), Refusal>
     ensures { verdict_number result ≡ lowest (import_rows file.now image.now) }
 {

@@ -155,6 +155,7 @@ fn put_area(pixels: &[u8], area: &mut [u8])
 }
 
 // What a placing was lent, judged.
+#[tactic(auto, using(controller::proofs::Judging::rows), unfolding(crate::specs::Placing::place_rows))]
 fn judge_place(state: Controller, ram: &[u8], file: &[u8]) -> Result<(), Refusal>
     ensures { verdict_number result ≡ lowest (place_rows state ram.now file.now) }
 {

@@ -24,6 +24,7 @@ fn put_pixels(ram: &[u8], pixels: &mut [u8])
 }
 
 // The header's bytes.
+#[tactic(auto, unfolding(crate::specs::Grey::header))]
 pub fn put_header(out: &mut [u8])
     requires { length out.old ≡ 15 }
     ensures { out.new ≡ header }
@@ -41,6 +42,7 @@ fn put_file(ram: &[u8], out: &mut [u8])
 }
 
 // What an export was lent, judged.
+#[tactic(auto, using(controller::proofs::Judging::rows), unfolding(crate::specs::Grey::export_rows))]
 fn judge_export(ram: &[u8], out: &[u8]) -> Result<(), Refusal>
     ensures { verdict_number result ≡ lowest (export_rows ram.now out.now) }
 {

@@ -25,8 +25,8 @@ fn put_values(store: &[u8; 16384], set: Setting, values: &mut [u8])
 {
     let mut carried = [0u8; 128];
     first_row(store, set, 8, &mut carried);
-    let mut row = [0u8; 128];
     for y in 0..112 {
+        let mut row = [0u8; 128];
         next_row(store, set, y + 8, &mut carried, &mut row);
         let start = 128 * y;
         values[start..start + 128].copy_from_slice(&row);
@@ -43,6 +43,7 @@ fn put_readings(store: &[u8; 16384], regs: &[u8; 54], out: &mut [u8])
 }
 
 // What readings are asked of, judged: 1, 4, 7, then 11.
+#[tactic(auto, using(controller::proofs::Judging::rows), unfolding(crate::specs::Readings::reading_rows))]
 fn judge_readings(state: Controller, store: &[u8], out: &[u8]) -> Result<(), Refusal>
     ensures { verdict_number result ≡ lowest (reading_rows state store.now out.now) }
 {
@@ -57,6 +58,7 @@ pub fn readings(state: Controller, store: &[u8], out: &mut [u8]) -> Result<u32, 
     ensures { exported (output_number result) (output_value result) out.new ≡ readings_mean state store.now out.old }
 {
     judge_readings(state, store, out)?;
-    put_readings(store.try_into().unwrap(), &state.taken, out);
+    let store: &[u8; 16384] = store.try_into().unwrap();
+    put_readings(store, &state.taken, out);
     Ok(14351)
 }

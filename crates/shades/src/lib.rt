@@ -103,6 +103,7 @@ fn put_shades(ram: &[u8], pixels: &mut [u8])
 }
 
 // What a reading of shades was lent, judged.
+#[tactic(auto, using(controller::proofs::Judging::rows), unfolding(crate::specs::Shades::shades_rows))]
 fn judge_shades(ram: &[u8], out: &[u8]) -> Result<(), Refusal>
     ensures { verdict_number result ≡ lowest (shades_rows ram.now out.now) }
 {

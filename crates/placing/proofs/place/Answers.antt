@@ -8,13 +8,16 @@ use lib.ListN.{take}
 use lib.Seq.{drop-drop}
 use Rattle.controller.specs.Outcome.{outcome}
 use Rattle.timing.proofs.Lent.{ram_lent}
+use Rattle.std.proofs.lemmas.Result.{err_from_is_err_and}
 use Rattle.controller.proofs.Refusals.{by_why, by_fits, fits_none}
 use Rattle.placing.specs.Placing.{placed_area, placed_in}
 use Rattle.placing.proofs.Placed.{place_refuses, place_fits, plate_length, plate_greys, pixels_whole}
 use Rattle.placing.proofs.place.Goals as goal
 
 pub returns-in_err-judge_place : goal.returns-in_err-judge_place
-returns-in_err-judge_place c = by_why (place_refuses _ _ _) _ c.judge_place.ensures _ c.in_err-judge_place.was
+returns-in_err-judge_place c =
+    let p = err_from_is_err_and c.from_residual.result c.from_residual.ensures.1 in
+    rw (p.1, p.2) (by_why (place_refuses _ _ _) _ c.judge_place.ensures _ c.in_err-judge_place.was)
 
 pub slice_bounds-put_area-end : goal.slice_bounds-put_area-end
 slice_bounds-put_area-end c =

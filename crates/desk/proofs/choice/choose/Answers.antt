@@ -8,12 +8,12 @@ use Rattle.desk.specs.Choice.{with_registers}
 use Rattle.desk.proofs.Choices.{choose_refuses, choose_fits}
 use Rattle.desk.proofs.choice.choose.Goals as goal
 
-pub returns-in_err-judge_choice : goal.returns-in_err-judge_choice
-returns-in_err-judge_choice c = by_why (choose_refuses _ _ _ _ _) _ c.judge_choice.ensures _ c.in_err-judge_choice.was
+pub returns-in-Err : goal.returns-in-Err
+returns-in-Err c = by_why (choose_refuses _ _ _ _ _) _ c.judge_choice.ensures _ c.in-Err.is
 
 pub put_choice-registers-requires : goal.put_choice-registers-requires
 put_choice-registers-requires c =
-    let f = choose_fits _ _ _ (fits_none _ _ c.judge_choice.ensures c.in_ok-judge_choice.was) in
+    let f = choose_fits _ _ _ (fits_none _ _ c.judge_choice.ensures c.in_default.is) in
     (f.light_fits, f.level_fits)
 
 pub returns : goal.returns
@@ -21,4 +21,4 @@ unfolding with_registers
 returns c =
     let a = c.args in
     ap (λ (r : List ℕ). outcome 0 0 (with_registers a.state r) [] []) c.put_choice-registers.ensures
-    ∙ by_fits (choose_refuses _ _ _ _ _) _ c.judge_choice.ensures c.in_ok-judge_choice.was
+    ∙ by_fits (choose_refuses _ _ _ _ _) _ c.judge_choice.ensures c.in_default.is

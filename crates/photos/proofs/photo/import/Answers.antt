@@ -4,6 +4,7 @@ use Prim.Native.Nat.{ℕ, ◌-◌}
 use native.Mathlib.Omega.{arith}
 use lib.ListN.{length, length-take, length-drop}
 use Rattle.timing.proofs.Lent.{frame_lent}
+use Rattle.std.proofs.lemmas.Result.{err_from_is_err_and}
 use Rattle.controller.proofs.Refusals.{by_why, by_fits, fits_none}
 use mathlib.Core.List.{List}
 use Rattle.laws.specs.Lists.{listed}
@@ -12,7 +13,9 @@ use Rattle.photos.proofs.Imports.{import_refuses, import_fits, photo_long, take_
 use Rattle.photos.proofs.photo.import.Goals as goal
 
 pub returns-in_err-judge_import : goal.returns-in_err-judge_import
-returns-in_err-judge_import c = by_why (import_refuses _ _) _ c.judge_import.ensures _ c.in_err-judge_import.was
+returns-in_err-judge_import c =
+    let p = err_from_is_err_and c.from_residual.result c.from_residual.ensures.1 in
+    rw (p.1, p.2) (by_why (import_refuses _ _) _ c.judge_import.ensures _ c.in_err-judge_import.was)
 
 pub put_image-requires : goal.put_image-requires
 put_image-requires c =
