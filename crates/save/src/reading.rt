@@ -74,6 +74,7 @@ fn is_other(good: bool, file: &[u8], ram: usize) -> bool
 }
 
 // What a restoring was lent, judged: 1, 3, 4, then 8. The checksum is worked out once.
+#[tactic(auto, using(controller::proofs::Judging::refused, controller::proofs::Judging::passed, controller::proofs::Judging::last, controller::proofs::Judging::exit), unfolding(crate::specs::Restore::restore_rows))]
 fn judge_restore(file: &[u8], state: &[u8], ram: &[u8], store: &[u8]) -> Result<(), Refusal>
     ensures { verdict_number result ≡ lowest (restore_rows file.now state.now ram.now store.now) }
 {

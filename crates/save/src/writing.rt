@@ -69,6 +69,7 @@ fn is_short(ram: usize, out: usize) -> bool
 }
 
 // What a save was lent, judged: 1, 3, 4, then 7.
+#[tactic(auto, using(controller::proofs::Judging::refused, controller::proofs::Judging::passed, controller::proofs::Judging::last, controller::proofs::Judging::exit), unfolding(crate::specs::Save::save_rows))]
 fn judge_save(state: &[u8], ram: &[u8], store: &[u8], out: &[u8]) -> Result<(), Refusal>
     ensures { verdict_number result ≡ lowest (save_rows state.now ram.now store.now out.now) }
 {
