@@ -18,7 +18,7 @@ use Rattle.controller.proofs.Refusals.{Refuses, refuses, row_holds, rising_from,
 use Rattle.script.specs.Text.{lines_of}
 use Rattle.std.specs.declared.result.Result.{Result}
 use Rattle.controller.specs.declared.Refusal.{Refusal}
-use Rattle.salvaging.specs.declared.Cleaned.{Cleaned}
+use Rattle.salvaging.specs.declared.Salvaged.{Salvaged}
 use Rattle.std.specs.Prelude.{Ok, Err}
 use Rattle.salvaging.specs.Salvage.{cleaned, text_short, report_short, salvage_rows, Salvaging, unsalvaged, salvage_done, salvage_means, salvaged_as}
 
@@ -90,7 +90,7 @@ module _ (script text report : List ℕ) where
   )
 
 -- one answer, and one list of bytes for each buffer
-pub only_salvage : (r s : Result Cleaned Refusal) (text text' report report' : List ℕ) → salvaged_as r text report ≡ salvaged_as s text' report' → (r ≡ s) × (text ≡ text') × (report ≡ report')
+pub only_salvage : (r s : Result Salvaged Refusal) (text text' report report' : List ℕ) → salvaged_as r text report ≡ salvaged_as s text' report' → (r ≡ s) × (text ≡ text') × (report ≡ report')
 only_salvage (Ok n m) (Ok k l) text text' report report' e = (λ i. Ok (e i).length (e i).lines, λ i. (e i).text, λ i. (e i).report)
 only_salvage (Ok n m) (Err v) text text' report report' e = absurd (some_number v (λ i. (e i).number))
 only_salvage (Err w) (Ok k l) text text' report report' e = absurd (some_number w (sym (λ i. (e i).number)))
