@@ -5,7 +5,7 @@ ghost use Rattle.std.specs.Prelude.{◌≡◌};
 ghost use Rattle.std.specs.Counts.{IsPrefixLen};
 ghost use Rattle.salvage.specs.Counted.{counted};
 
-use salvaging::Cleaned;
+use salvaging::Salvaged;
 use salvaging::put::{KEPT, MALFORMED, REPEATED};
 use std::io::{Read, Write};
 
@@ -107,7 +107,7 @@ fn clean(
     report: &mut [u8],
 ) {
     match salvaging::salvage(script, text, report) {
-        Ok(Cleaned { length, lines }) => {
+        Ok(Salvaged { length, lines }) => {
             let n = within(length, text);
             let m = within(lines, report);
             finish(rt, sink, &text[..n], &report[..m]);

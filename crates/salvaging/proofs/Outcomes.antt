@@ -10,17 +10,19 @@ use lib.ListN.{length}
 use borrow.Author.Tests.{lt-ltb, le-ltb, ltb-true, ltb-false}
 use Rattle.laws.specs.Pick.{pick}
 use Rattle.laws.proofs.Order.{split}
-use Rattle.laws.proofs.Bools.{not_both}
+use Rattle.laws.proofs.Bools.{either, not_both}
 use Rattle.laws.proofs.Pick.{pick_one}
+use Rattle.controller.specs.Outcome.{number_of, verdict_number}
+use Rattle.controller.proofs.Judging.{refused, passed, last}
 use Rattle.controller.specs.Table.{Row, no_room, before, lowest, judged}
 use Rattle.controller.proofs.Only.{only_number, some_number}
 use Rattle.controller.proofs.Refusals.{Refuses, refuses, row_holds, rising_from, first_fails}
 use Rattle.script.specs.Text.{lines_of}
 use Rattle.std.specs.declared.result.Result.{Result}
 use Rattle.controller.specs.declared.Refusal.{Refusal}
-use Rattle.salvaging.specs.declared.Cleaned.{Cleaned}
-use Rattle.std.specs.Prelude.{Ok, Err}
-use Rattle.salvaging.specs.Salvage.{cleaned, text_short, report_short, salvage_rows, Salvaging, unsalvaged, salvage_done, salvage_means, salvaged_as}
+use Rattle.salvaging.specs.declared.Salvaged.{Salvaged}
+use Rattle.std.specs.Prelude.{⊤, Ok, Err}
+use Rattle.salvaging.specs.Salvage.{cleaned, too_long, text_short, report_short, salvage_rows, Salvaging, unsalvaged, salvage_done, salvage_means, salvaged_as}
 
 -- the rows of the two buffers
 unfoldable pub room_rows : List ℕ → List ℕ → List ℕ → List Row
@@ -65,11 +67,15 @@ module _ (script text report : List ℕ) where
       let r = first_fails _ _ t.1 in
       (ltb-false (length text) (length (cleaned script)) t.0, ltb-false (length report) (length (lines_of script)) r.0)
 
-  -- the buffers, judged
-  pub room_judged : (long many : ℕ) {v w : ℕ} → long ≡ length (cleaned script) → many ≡ length (lines_of script)
-      → v ≡ before (no_room long (length text)) w → w ≡ before (no_room many (length report)) 0 → v ≡ lowest (room_rows script text report)
-  unfolding room_rows lowest
-  room_judged long many e f p q = rw (p, q, e, f)
+  -- the buffers, judged: the text's is too short, or the report's is asked
+  pub room_refused : (long : ℕ) (why : Refusal) → long ≡ length (cleaned script) → number_of why ≡ before (no_room long (length text)) 0 → number_of why ≡ lowest (room_rows script text report)
+  unfolding room_rows
+  room_refused long why e p = refused _ _ why (rw e at p)
+
+  pub room_passed : (long many n : ℕ) → long ≡ length (cleaned script) → many ≡ length (lines_of script)
+      → 0 ≡ before (no_room long (length text)) 0 → n ≡ before (no_room many (length report)) 0 → n ≡ lowest (room_rows script text report)
+  unfolding room_rows
+  room_passed long many n e f p q = passed _ _ n (rw e at p) (last _ n (rw f at q))
 
   -- 12 is given exactly when the script is over 32,768 bytes
   pub twelve_exactly : ((salvage_means script text report).number ≡ 12) ↔ (32768 < length script)
@@ -89,9 +95,20 @@ module _ (script text report : List ℕ) where
     λ g. (salvage_short g.0).numbered ∙ ⊎_elim (λ t. simp (lt-ltb (length text) (length (cleaned script)) t)) (λ r. simp (lt-ltb (length report) (length (lines_of script)) r) (pick_one (ltb (length text) (length (cleaned script))) 7)) g.1,
   )
 
+-- the first row, judged
+pub too_long_judged : (script : List ℕ) (v : Result ⊤ Refusal) → verdict_number v ≡ before (too_long script) 0 → (why : Refusal) → v ≡ Err why → (32768 < length script) × (number_of why ≡ 12)
+too_long_judged script v e why f =
+    let n : number_of why ≡ before (too_long script) 0 = sym (ap verdict_number f) ∙ e in
+    either (ltb 32768 (length script)) (λ t. (ltb-true 32768 (length script) t, simp t at n)) (λ t. absurd (some_number why (sym (simp t at n))))
+
+pub not_long_judged : (script : List ℕ) (v : Result ⊤ Refusal) → verdict_number v ≡ before (too_long script) 0 → {x : ⊤} → v ≡ Ok x → length script ≤ 32768
+not_long_judged script v e {x} f =
+    let n : 0 ≡ before (too_long script) 0 = sym (ap verdict_number f) ∙ e in
+    either (ltb 32768 (length script)) (λ t. absurd (omega (arith, simp t at n))) (λ t. ltb-false 32768 (length script) t)
+
 -- one answer, and one list of bytes for each buffer
-pub only_salvage : (r s : Result Cleaned Refusal) (text text' report report' : List ℕ) → salvaged_as r text report ≡ salvaged_as s text' report' → (r ≡ s) × (text ≡ text') × (report ≡ report')
-only_salvage (Ok n m) (Ok k l) text text' report report' e = (λ i. Ok (e i).length (e i).lines, λ i. (e i).text, λ i. (e i).report)
-only_salvage (Ok n m) (Err v) text text' report report' e = absurd (some_number v (λ i. (e i).number))
-only_salvage (Err w) (Ok k l) text text' report report' e = absurd (some_number w (sym (λ i. (e i).number)))
+pub only_salvage : (r s : Result Salvaged Refusal) (text text' report report' : List ℕ) → salvaged_as r text report ≡ salvaged_as s text' report' → (r ≡ s) × (text ≡ text') × (report ≡ report')
+only_salvage (Ok c) (Ok d) text text' report report' e = (λ i. Ok (record { length = (e i).length; lines = (e i).lines }), λ i. (e i).text, λ i. (e i).report)
+only_salvage (Ok c) (Err v) text text' report report' e = absurd (some_number v (λ i. (e i).number))
+only_salvage (Err w) (Ok d) text text' report report' e = absurd (some_number w (sym (λ i. (e i).number)))
 only_salvage (Err w) (Err v) text text' report report' e = (ap Err (only_number w v (λ i. (e i).number)), λ i. (e i).text, λ i. (e i).report)

@@ -4,11 +4,11 @@ use mathlib.Core.Bool.{Bool}
 use mathlib.Core.List.{List, [], ◌∷◌, ◌++◌}
 use Prim.Native.Nat.{ℕ, zero, suc, ◌+◌, ◌-◌, ◌<◌, ◌≤◌}
 use native.Mathlib.Omega.{arith}
-use lib.ListN.{length, get_or, take, drop, set, length-append, length-drop}
-use lib.Seq.{length-take-le}
+use lib.ListN.{length, take, drop, set, length-append, length-drop}
+use lib.Seq.{length-take-le, drop-drop}
 use Rattle.lines.specs.Hex.{placed}
 use Rattle.recording.specs.Record.{ended}
-use Rattle.lines.proofs.Placed.{placed_one, placed_next, placed_byte_lem, length_placed}
+use Rattle.lines.proofs.Placed.{placed_one, placed_next, length_placed}
 use Rattle.salvaging.specs.Kept.{accepted, text_of, kept_or, mark_of, left_after, marks}
 use Rattle.salvaging.specs.Aside.{between}
 
@@ -20,10 +20,11 @@ module _ (out : List ℕ) (at : ℕ) (t : List ℕ) (x k : ℕ) (fits : at + len
       placed_one (placed out at t) k x (rw (length_placed out at t (omega arith) (omega arith)) (omega arith))
       ∙ placed_next out at t (omega arith) (x ∷ []) k here
 
--- the next byte of a line
-pub stored_byte : (out : List ℕ) (at : ℕ) (line : List ℕ) (i : ℕ) → at + length line < length out → i < length line
-    → set (placed out at (take i line)) (at + i) (get_or line i 0) ≡ placed out at (take (i + 1) line)
-stored_byte out at line i fits h = placed_byte_lem out at line i h (omega arith)
+-- a line's bytes are put, and the LF after them
+pub line_put : (out : List ℕ) (at : ℕ) (line : List ℕ) (x n : ℕ) → n ≡ length line → at + length line < length out
+    → set (take at out ++ (line ++ drop n (drop at out))) (at + length line) x ≡ placed out at (line ++ (x ∷ []))
+unfolding placed
+line_put out at line x n e h = rw (e, drop-drop (length line) at out) (stored out at line x (at + length line) h refl)
 
 -- ---- the next line of a text
 

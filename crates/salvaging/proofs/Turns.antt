@@ -6,6 +6,7 @@ use mathlib.Core.List.{List, [], ◌∷◌, ◌++◌}
 use Prim.Native.Nat.{ℕ, zero, suc, ◌+◌, ◌-◌, ◌/◌, ◌%◌, ◌<◌, ◌≤◌}
 use native.Mathlib.Omega.{arith}
 use lib.Dec.{eqb}
+use lib.Pointwise.{pointwise}
 use lib.ListN.{length, get_or, take, drop, length-take, length-drop, length-append, take-append-drop}
 use lib.Seq.{take-add, take_at, drop_at, take-take, take-length, length-take-le}
 use borrow.Author.Tests.{eq-eqb, ne_eqb, eqb-true}
@@ -24,26 +25,13 @@ same_unlike f [] (y ∷ b) h = refl
 same_unlike f (x ∷ a) [] h = refl
 same_unlike f (x ∷ a) (y ∷ b) h = ap (λ t. f x y && t) (same_unlike f a b (λ e. h (ap suc e))) ∙ and-false (f x y)
 
-pub same_none : (a b : List ℕ) (i : ℕ) → length a ≤ i → length a ≡ length b → same_line (drop i a) (drop i b) ≡ true
+-- as std compares two slices
+pub same_pointwise : {A : Type 0} (f : A → A → Bool) (a b : List A) → pointwise f a b ≡ same_by f a b
 unfolding same_by
-same_none a b i h e = same_empty (drop i a) (drop i b) (rw length-drop (omega arith)) (rw length-drop (omega arith))
-  where
-    same_empty : (x y : List ℕ) → length x ≡ 0 → length y ≡ 0 → same_line x y ≡ true
-    same_empty [] [] p q = refl
-    same_empty [] (y ∷ b) p q = absurd (omega arith)
-    same_empty (x ∷ a) b p q = absurd (omega arith)
-
--- the next byte of two lines
-module _ (a b : List ℕ) (i : ℕ) (h : i < length a) (k : i < length b) where
-  same_byte_lem : same_line (drop i a) (drop i b) ≡ (eqb (get_or a i 0) (get_or b i 0) && same_line (drop (i + 1) a) (drop (i + 1) b))
-  unfolding same_by
-  same_byte_lem = rw (next a i h, next b i k)
-
-  pub same_differs : (get_or a i 0 ≡ get_or b i 0 → ⊥) → same_line (drop i a) (drop i b) ≡ false
-  same_differs e = same_byte_lem ∙ ap (λ t. t && same_line (drop (i + 1) a) (drop (i + 1) b)) (ne_eqb (get_or a i 0) (get_or b i 0) e)
-
-  pub same_agrees : get_or a i 0 ≡ get_or b i 0 → same_line (drop i a) (drop i b) ≡ same_line (drop (i + 1) a) (drop (i + 1) b)
-  same_agrees e = same_byte_lem ∙ ap (λ t. t && same_line (drop (i + 1) a) (drop (i + 1) b)) (eq-eqb (get_or a i 0) (get_or b i 0) e)
+same_pointwise f [] [] = refl
+same_pointwise f [] (y ∷ b) = refl
+same_pointwise f (x ∷ a) [] = refl
+same_pointwise f (x ∷ a) (y ∷ b) = ap (λ t. f x y && t) (same_pointwise f a b)
 
 -- the next of n lines
 module _ (n : ℕ) {P Q P' Q' : List (List ℕ)} {x y : List ℕ} (some : 0 < n) (p : P ≡ x ∷ P') (q : Q ≡ y ∷ Q') where

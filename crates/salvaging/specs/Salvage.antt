@@ -7,7 +7,7 @@ use Rattle.lines.specs.Hex.{placed}
 use Rattle.script.specs.Text.{lines_of}
 use Rattle.std.specs.declared.result.Result.{Result}
 use Rattle.controller.specs.declared.Refusal.{Refusal}
-use Rattle.salvaging.specs.declared.Cleaned.{Cleaned}
+use Rattle.salvaging.specs.declared.Salvaged.{Salvaged}
 use Rattle.std.specs.Prelude.{Ok, Err}
 use Rattle.salvaging.specs.Kept.{salvaged, text_of, report_of}
 
@@ -56,6 +56,6 @@ salvage_means script text report =
     judged (lowest (salvage_rows script text report)) (unsalvaged text report) (salvage_done script text report)
 
 -- the number and the two values of each case of an answer
-abbrev pub salvaged_as : Result Cleaned Refusal → List ℕ → List ℕ → Salvaging
+abbrev pub salvaged_as : Result Salvaged Refusal → List ℕ → List ℕ → Salvaging
 salvaged_as (Ok c) text report = salvaging 0 c.length c.lines text report
 salvaged_as (Err why) text report = salvaging (number_of why) 0 0 text report

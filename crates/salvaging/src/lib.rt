@@ -19,13 +19,13 @@ pub const LONGEST: usize = 32768;
 
 // The text's length and the number of lines.
 #[derive(Clone, Copy)]
-pub struct Cleaned {
+pub struct Salvaged {
     pub length: usize,
     pub lines: usize,
 }
 
 // Cleans a script into one buffer and reports on its lines in another. Nothing is written before all refusals are decided.
-pub fn salvage(script: &[u8], text: &mut [u8], report: &mut [u8]) -> Result<Cleaned, Refusal>
+pub fn salvage(script: &[u8], text: &mut [u8], report: &mut [u8]) -> Result<Salvaged, Refusal>
     ensures { salvaged_as result text.new report.new ≡ salvage_means script.now text.old report.old }
 {
     refused_if(LONGEST < script.len(), Refusal::Script)?;
@@ -36,5 +36,5 @@ pub fn salvage(script: &[u8], text: &mut [u8], report: &mut [u8]) -> Result<Clea
     no_room(lines, report.len())?;
     put_text(script, n, text);
     put_report(script, n, report);
-    Ok(Cleaned { length, lines })
+    Ok(Salvaged { length, lines })
 }

@@ -17,15 +17,7 @@ pub struct Place {
 pub(crate) fn is_accepted(line: &[u8]) -> bool
     ensures { result ≡ accepted line.now }
 {
-    let frame = frame_of(line);
-    match frame {
-        Frame::Reset => true,
-        Frame::Read(_) => true,
-        Frame::Write(_, _) => true,
-        Frame::Tick(_) => true,
-        Frame::Row(_) => true,
-        Frame::Malformed => false,
-    }
+    !matches!(frame_of(line), Frame::Malformed)
 }
 
 // Where the line that begins at a place ends: at its LF, or at the end of the script.

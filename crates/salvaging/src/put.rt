@@ -37,12 +37,9 @@ fn put_line(text: &mut [u8], at: usize, line: &[u8])
     requires { at + (length line.now + 1) ≤ length text.old }
     ensures { text.new ≡ placed text.old at (ended line.now) }
 {
-    let mut i = 0;
-    while i < line.len() {
-        text[at + i] = line[i];
-        i += 1;
-    }
-    text[at + i] = 0x0A;
+    let end = at + line.len();
+    text[at..end].copy_from_slice(line);
+    text[end] = 0x0A;
 }
 
 // Puts the first n accepted lines, each with its LF.

@@ -12,15 +12,7 @@ use lines::line::{Frame, frame_of};
 fn is_reset(line: &[u8]) -> bool
     ensures { result ≡ is_reset (frame_of line.now) }
 {
-    let frame = frame_of(line);
-    match frame {
-        Frame::Reset => true,
-        Frame::Read(_) => false,
-        Frame::Write(_, _) => false,
-        Frame::Tick(_) => false,
-        Frame::Row(_) => false,
-        Frame::Malformed => false,
-    }
+    matches!(frame_of(line), Frame::Reset)
 }
 
 // Whether the accepted lines from a place on start with reset.
@@ -29,26 +21,14 @@ fn starts_reset(script: &[u8], at: usize) -> bool
     ensures { result ≡ starts_reset (accepted_at script.now at) }
 {
     let first = next_accepted(script, at);
-    let from = first.from;
-    let end = first.end;
-    is_reset(&script[from..end])
+    is_reset(&script[first.from..first.end])
 }
 
 // Whether two lines have the same bytes.
 fn same_line(a: &[u8], b: &[u8]) -> bool
     ensures { result ≡ same_line a.now b.now }
 {
-    if a.len() != b.len() {
-        return false;
-    }
-    let mut i = 0;
-    while i < a.len() {
-        if a[i] != b[i] {
-            return false;
-        }
-        i += 1;
-    }
-    true
+    a == b
 }
 
 // Whether the next n accepted lines from one place on are those from another.

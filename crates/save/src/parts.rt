@@ -16,17 +16,13 @@ pub(crate) fn put(from: &[u8], to: &mut [u8], at: usize)
     requires { at + length from.now ≤ length to.old }
     ensures { to.new ≡ take at to.old ++ (from.now ++ drop (at + length from.now) to.old) }
 {
-    for i in 0..from.len() {
-        to[at + i] = from[i];
-    }
+    to[at..at + from.len()].copy_from_slice(from);
 }
 
 // Whether bytes are a record, and one that can exist.
+#[tactic(auto, unfolding(crate::specs::Save::is_state))]
 pub(crate) fn is_state(state: &[u8]) -> bool
     ensures { result ≡ is_state state.now }
 {
-    if !is_record(state) {
-        return false;
-    }
-    decode(state).exists()
+    is_record(state) && decode(state).exists()
 }

@@ -18,14 +18,11 @@ use timing::ram_allowed;
 fn is_sized(file: &[u8]) -> bool
     ensures { result ≡ is_sized file.now }
 {
-    if file.len() < 7 {
+    let Some(&banks) = file.get(6) else {
         return false;
-    }
-    let ram = Controller::RAM_BANK * file[6] as usize;
-    if !ram_allowed(ram) {
-        return false;
-    }
-    file.len() == REST + ram
+    };
+    let ram = Controller::RAM_BANK * usize::from(banks);
+    ram_allowed(ram) && file.len() == REST + ram
 }
 
 // Whether a file begins with the magic.
@@ -41,25 +38,17 @@ fn is_whole(file: &[u8], end: usize) -> bool
     requires { end + 4 ≤ length file.now }
     ensures { result ≡ eqb (four_at file.now end) (crc_of (take end file.now)) }
 {
-    let given = four_at(file, end);
-    let sum = crc32(&file[0..end]);
-    given == sum
+    four_at(file, end) == crc32(&file[..end])
 }
 
 // Whether a file is a save.
 fn is_save(file: &[u8]) -> bool
     ensures { result ≡ is_save file.now }
 {
-    if !is_sized(file) {
-        return false;
-    }
-    if !has_magic(file) {
-        return false;
-    }
-    if !is_state(&file[7..FRONT]) {
-        return false;
-    }
-    is_whole(file, file.len() - 4)
+    is_sized(file)
+        && has_magic(file)
+        && is_state(&file[7..FRONT])
+        && is_whole(file, file.len() - 4)
 }
 
 // Whether a file is a save, and its RAM is of another length.
@@ -67,13 +56,11 @@ fn is_other(good: bool, file: &[u8], ram: usize) -> bool
     requires { good ≡ is_save file.now }
     ensures { result ≡ (is_save file.now && not (eqb ram (ram_length_in file.now))) }
 {
-    if !good {
-        return false;
-    }
-    ram != file.len() - REST
+    good && ram != file.len() - REST
 }
 
 // What a restoring was lent, judged: 1, 3, 4, then 8. The checksum is worked out once.
+#[tactic(auto, using(controller::proofs::Judging::refused, controller::proofs::Judging::passed, controller::proofs::Judging::last, controller::proofs::Judging::exit), unfolding(crate::specs::Restore::restore_rows))]
 fn judge_restore(file: &[u8], state: &[u8], ram: &[u8], store: &[u8]) -> Result<(), Refusal>
     ensures { verdict_number result ≡ lowest (restore_rows file.now state.now ram.now store.now) }
 {

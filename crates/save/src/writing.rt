@@ -25,10 +25,7 @@ fn put_four(n: u32, out: &mut [u8])
     requires { length out.old ≡ 4 }
     ensures { out.new ≡ low_first n }
 {
-    out[0] = (n % 256) as u8;
-    out[1] = (n / 256 % 256) as u8;
-    out[2] = (n / 65536 % 256) as u8;
-    out[3] = (n / 16777216 % 256) as u8;
+    out.copy_from_slice(&n.to_le_bytes());
 }
 
 // All before the checksum.
@@ -62,13 +59,11 @@ fn put_save(state: &[u8], ram: &[u8], store: &[u8], out: &mut [u8])
 fn is_short(ram: usize, out: usize) -> bool
     ensures { result ≡ ltb out (save_length ram) }
 {
-    if out < REST {
-        return true;
-    }
-    out - REST < ram
+    out < REST || out - REST < ram
 }
 
 // What a save was lent, judged: 1, 3, 4, then 7.
+#[tactic(auto, using(controller::proofs::Judging::refused, controller::proofs::Judging::passed, controller::proofs::Judging::last, controller::proofs::Judging::exit), unfolding(crate::specs::Save::save_rows))]
 fn judge_save(state: &[u8], ram: &[u8], store: &[u8], out: &[u8]) -> Result<(), Refusal>
     ensures { verdict_number result ≡ lowest (save_rows state.now ram.now store.now out.now) }
 {

@@ -8,7 +8,7 @@ use native.Mathlib.Numerals.{add-one}
 use native.Mathlib.Omega.{arith}
 use lib.Dec.{ltb, leb}
 use lib.ListN.{length, get_or, take, drop, replicate, length-append, length-take, length-drop, drop_of_length-le}
-use lib.Seq.{drop-cons, take_all, take-suc, take-append-le, take-append-add, get_or-drop, length-take-le}
+use lib.Seq.{drop-cons, drop-drop, take_all, take-suc, take-append-le, take-append-add, get_or-drop, length-take-le}
 use borrow.Author.Tests.{eq-eqb, ne_eqb, lt-ltb, le-ltb, le-leb, ltb-true, leb-true}
 use Rattle.laws.proofs.Bools.{not_both, both_left, both_right}
 use Rattle.laws.proofs.Order.{split}
@@ -187,6 +187,11 @@ goes_on_lem end n room r e t =
     (ltb-true end n (both_left (ltb end n) (leb 11 room) h), leb-true 11 room (both_right (ltb end n) (leb 11 room) h))
 
 -- ---- the bytes that are held
+
+-- a part of a buffer that bytes are copied into
+pub placed_part : (out : List ℕ) (at n k : ℕ) (t : List ℕ) → n ≡ length t → k ≡ n → take at out ++ (t ++ drop k (drop at out)) ≡ placed out at t
+unfolding placed
+placed_part out at n k t e f = rw (f, e, drop-drop (length t) at out)
 
 -- of a list as many elements as there are, but no more
 pub few_taken : (n : ℕ) (bytes : List ℕ) (m : ℕ) → m ≡ min (length bytes) n → take m bytes ≡ take n bytes

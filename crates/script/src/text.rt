@@ -43,28 +43,14 @@ impl Reader {
     }
 }
 
-// A number, but no more than another.
-fn at_most(n: usize, most: usize) -> usize
-    ensures { (result ≡ min n most) × (result ≤ most) × (result ≤ n) }
-{
-    if n < most {
-        return n;
-    }
-    most
-}
-
 // Holds bytes of a line after those that are held, as far as 261, and returns how many are held then.
 pub fn hold(line: &mut [u8], held: usize, bytes: &[u8]) -> usize
     requires { (length line.old ≡ 261) × (held ≤ 261) }
     ensures { (line.new ≡ placed line.old held (take (261 - held) bytes.now))
         × (result ≡ held + length (take (261 - held) bytes.now)) × (result ≤ 261) }
 {
-    let n = at_most(bytes.len(), HELD - held); // the others are skipped
-    let mut i = 0;
-    while i < n {
-        line[held + i] = bytes[i];
-        i += 1;
-    }
+    let n = bytes.len().min(HELD - held); // the others are skipped
+    line[held..held + n].copy_from_slice(&bytes[..n]);
     held + n
 }
 
@@ -109,10 +95,7 @@ fn end_line(
 fn answered(end: usize, piece: &[u8], room: usize) -> bool
     ensures { result ≡ (ltb end (length piece.now) && leb 11 room) }
 {
-    if end < piece.len() {
-        return ANSWER <= room;
-    }
-    false
+    end < piece.len() && ANSWER <= room
 }
 
 // Reads a piece, and writes the answers of the lines that end in it, one after the other: up to an LF for whose
@@ -132,7 +115,7 @@ pub fn feed(
         out.old) × (result.used ≤ length piece.now) × (result.written ≤ length out.old) }
 {
     let mut line = reader.line;
-    let mut held = at_most(reader.held, HELD);
+    let mut held = reader.held.min(HELD);
     let mut bytes = bytes_of(state);
     let mut at = 0;
     let mut i = 0;
@@ -180,7 +163,7 @@ pub fn finish(
         ≡ saying (finish_means rom.now (world state ram.old store.old image.old) reader)) × (result.length ≤ 11) }
 {
     let line = reader.line;
-    let held = at_most(reader.held, HELD);
+    let held = reader.held.min(HELD);
     if held == 0 { // no line has begun
         return Stepped {
             state,

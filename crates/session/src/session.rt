@@ -81,10 +81,8 @@ fn take_row(image: &mut [u8], line: &[u8], y: usize)
     requires { (length line.now ≡ 260) × (hex_part line.now 0 260 ≡ true) × (128 * y + 128 ≤ length image.old) }
     ensures { image.new ≡ row_taken line.now y 128 image.old }
 {
-    let mut i = 0;
-    while i < 128 {
+    for i in 0..128 {
         image[128 * y + i] = byte_at(line, 4 + 2 * i);
-        i += 1;
     }
 }
 

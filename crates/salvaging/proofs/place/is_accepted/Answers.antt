@@ -1,28 +1,23 @@
--- `salvage::place::is_accepted` meets its contract: frame by frame. Assumes nothing.
-use mathlib.Core.Path.{sym, ap, ◌∙◌}
+-- `salvaging::place::is_accepted` meets its contract: a frame, or none. Assumes nothing.
+use Rattle.std.proofs.Common.{◌≡◌, true, sym, refl, ap, ◌∙◌}
+use Rattle.lines.specs.declared.line.Frame.{Frame}
+use Rattle.lines.specs.declared.line.Frame.TheVariants.{Reset, Read, Write, Tick, Row, Malformed}
 use Rattle.salvaging.specs.Kept.{is_frame, accepted}
+use Rattle.salvaging.proofs.place.is_accepted.Goals.{in-Malformed, in_default}
 use Rattle.salvaging.proofs.place.is_accepted.Goals as goal
 
-pub returns-in-Reset : goal.returns-in-Reset
-unfolding accepted
-returns-in-Reset c = ap is_frame (sym c.in-Reset.is ∙ c.frame_of-frame.ensures)
+some_frame : (f : Frame) → (f ≡ Malformed → ⊥) → is_frame f ≡ true
+some_frame Reset h = refl
+some_frame (Read a) h = refl
+some_frame (Write a v) h = refl
+some_frame (Tick n) h = refl
+some_frame (Row y) h = refl
+some_frame Malformed h = absurd (h refl)
 
-pub returns-in-Read : goal.returns-in-Read
+pub returns : goal.returns
 unfolding accepted
-returns-in-Read c = ap is_frame (sym c.in-Read.is ∙ c.frame_of-frame.ensures)
-
-pub returns-in-Write : goal.returns-in-Write
-unfolding accepted
-returns-in-Write c = ap is_frame (sym c.in-Write.is ∙ c.frame_of-frame.ensures)
-
-pub returns-in-Tick : goal.returns-in-Tick
-unfolding accepted
-returns-in-Tick c = ap is_frame (sym c.in-Tick.is ∙ c.frame_of-frame.ensures)
-
-pub returns-in-Row : goal.returns-in-Row
-unfolding accepted
-returns-in-Row c = ap is_frame (sym c.in-Row.is ∙ c.frame_of-frame.ensures)
-
-pub returns-in-Malformed : goal.returns-in-Malformed
-unfolding accepted
-returns-in-Malformed c = ap is_frame (sym c.in-Malformed.is ∙ c.frame_of-frame.ensures)
+returns c =
+    elim c.match-matches.branch [
+      in-Malformed w ↦ rw w.matches-is (ap is_frame (sym w.in-Malformed.is ∙ c.frame_of.ensures))
+    | in_default w ↦ rw w.matches-is (sym (some_frame _ w.in_default.not-Malformed) ∙ ap is_frame c.frame_of.ensures)
+    ]

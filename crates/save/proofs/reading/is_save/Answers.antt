@@ -1,45 +1,48 @@
 -- `save::reading::is_save` meets its contract: test by test. Assumes nothing.
-use mathlib.Core.Path.{◌≡◌, ap, ◌∙◌, sym}
-use Prim.Native.Nat.{ℕ, ◌-◌}
-use native.Mathlib.Omega.{arith}
-use lib.Dec.{eqb}
-use lib.ListN.{length, take}
+use Rattle.std.proofs.Common.{◌≡◌, ℕ, ◌+◌, ◌-◌, ◌≤◌, Bool, true, false, ◌&&◌, eqb, length, take, ap, sym, ◌∙◌, arith}
 use Rattle.crc.specs.Crc.{crc_of}
 use Rattle.layout.specs.Layout.{four_at}
 use Rattle.save.specs.Restore.{body_length_in, is_whole, is_save}
 use Rattle.save.proofs.Restored.{sized}
+use Rattle.save.proofs.reading.is_save.Goals.{then-is_sized, else-is_sized, then-has_magic, else-has_magic}
 use Rattle.save.proofs.reading.is_save.Goals as goal
 
-pub returns-then-not-is_sized : goal.returns-then-not-is_sized
-unfolding is_save
-returns-then-not-is_sized c = simp (sym c.is_sized.ensures ∙ c.if-not-is_sized.true)
-
-pub returns-then-not-has_magic : goal.returns-then-not-has_magic
-unfolding is_save
-returns-then-not-has_magic c = simp (sym c.is_sized.ensures ∙ c.if-not-is_sized.false, sym c.has_magic.ensures ∙ c.if-not-has_magic.true)
-
-pub returns-then-not-is_state : goal.returns-then-not-is_state
-unfolding is_save
-returns-then-not-is_state c =
-    simp (sym c.is_sized.ensures ∙ c.if-not-is_sized.false, sym c.has_magic.ensures ∙ c.if-not-has_magic.false, sym c.is_state.ensures ∙ c.if-not-is_state.true)
-
-pub returns : goal.returns
+pub returns-then-is_state : goal.returns-then-is_state
 unfolding is_save is_whole
-returns c =
+returns-then-is_state c =
     let f = c.args.file.now in
-    let is-sized = sym c.is_sized.ensures ∙ c.if-not-is_sized.false in
-    let end : length f - 4 ≡ body_length_in f = omega (arith, (sized f is-sized).long) in
-    simp (is-sized, sym c.has_magic.ensures ∙ c.if-not-has_magic.false, sym c.is_state.ensures ∙ c.if-not-is_state.false)
-    (c.is_whole.ensures ∙ ap (λ (n : ℕ). eqb (four_at f n) (crc_of (take n f))) end)
+    elim c.if-has_magic.branch [
+      then-has_magic w ↦
+          elim c.if-is_sized.branch [
+            then-is_sized v ↦
+                let is-sized = sym c.is_sized.ensures ∙ v.if-is_sized.true in
+                let end : length f - 4 ≡ body_length_in f = omega (arith, (sized f is-sized).long) in
+                simp (is-sized, sym v.has_magic.ensures ∙ sym v.value-is ∙ w.if-has_magic.true, sym w.is_state.ensures ∙ sym w.value-is ∙ c.if-is_state.true)
+                (c.is_whole.ensures ∙ ap (λ (n : ℕ). eqb (four_at f n) (crc_of (take n f))) end)
+          | else-is_sized v ↦ absurd (let h : true ≡ false = sym w.if-has_magic.true ∙ v.value-is ∙ v.if-is_sized.false in cc)
+          ]
+    | else-has_magic w ↦ absurd (let h : true ≡ false = sym c.if-is_state.true ∙ w.value-is ∙ w.if-has_magic.false in cc)
+    ]
+
+pub returns-else-is_state : goal.returns-else-is_state
+unfolding is_save
+returns-else-is_state c =
+    elim c.if-is_sized.branch [
+      then-is_sized v ↦
+          elim c.if-has_magic.branch [
+            then-has_magic w ↦
+                simp (sym c.is_sized.ensures ∙ v.if-is_sized.true, sym v.has_magic.ensures ∙ sym v.value-is ∙ w.if-has_magic.true, sym w.is_state.ensures ∙ sym w.value-is ∙ c.if-is_state.false) c.if-is_state.false
+          | else-has_magic w ↦ simp (sym c.is_sized.ensures ∙ v.if-is_sized.true, sym v.has_magic.ensures ∙ sym v.value-is ∙ w.if-has_magic.false) c.if-is_state.false
+          ]
+    | else-is_sized v ↦ simp (sym c.is_sized.ensures ∙ v.if-is_sized.false) c.if-is_state.false
+    ]
 
 pub has_magic-requires : goal.has_magic-requires
-has_magic-requires c = omega (arith, (sized c.args.file.now (sym c.is_sized.ensures ∙ c.if-not-is_sized.false)).long)
+has_magic-requires c = omega (arith, (sized c.args.file.now (sym c.is_sized.ensures ∙ c.if-is_sized.true)).long)
 
 pub slice_bounds-is_state-end : goal.slice_bounds-is_state-end
-slice_bounds-is_state-end c = omega (arith, (sized c.args.file.now (sym c.is_sized.ensures ∙ c.if-not-is_sized.false)).long)
-
-pub overflow_sub-file : goal.overflow_sub-file
-overflow_sub-file c = omega (arith, (sized c.args.file.now (sym c.is_sized.ensures ∙ c.if-not-is_sized.false)).long)
-
-pub is_whole-requires : goal.is_whole-requires
-is_whole-requires c = omega (arith, (sized c.args.file.now (sym c.is_sized.ensures ∙ c.if-not-is_sized.false)).long)
+slice_bounds-is_state-end c =
+    elim c.if-is_sized.branch [
+      then-is_sized v ↦ omega (arith, (sized c.args.file.now (sym c.is_sized.ensures ∙ v.if-is_sized.true)).long)
+    | else-is_sized v ↦ absurd (let h : true ≡ false = sym c.if-has_magic.true ∙ v.value-is ∙ v.if-is_sized.false in cc)
+    ]

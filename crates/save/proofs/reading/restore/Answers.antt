@@ -1,12 +1,15 @@
 -- `save::reading::restore` meets its contract: it is judged, and then each part is put. Assumes nothing.
 use mathlib.Core.Path.{◌∙◌}
 use native.Mathlib.Omega.{arith}
+use Rattle.std.proofs.lemmas.Result.{err_from_is_err_and}
 use Rattle.controller.proofs.Refusals.{by_why, by_fits, fits_none}
 use Rattle.save.proofs.Restored.{save_parts, restore_refuses, restore_fits, state_room, ram_inside, store_inside, store_room, restore_done}
 use Rattle.save.proofs.reading.restore.Goals as goal
 
 pub returns-in_err-judge_restore : goal.returns-in_err-judge_restore
-returns-in_err-judge_restore c = by_why (restore_refuses _ _ _ _) _ c.judge_restore.ensures _ c.in_err-judge_restore.was
+returns-in_err-judge_restore c =
+    let p = err_from_is_err_and c.from_residual.result c.from_residual.ensures.1 in
+    rw (p.1, p.2) (by_why (restore_refuses _ _ _ _) _ c.judge_restore.ensures _ c.in_err-judge_restore.was)
 
 pub slice_bounds-put-end : goal.slice_bounds-put-end
 slice_bounds-put-end c =

@@ -2,6 +2,7 @@
 use mathlib.Core.Path.{ap, ◌∙◌}
 use native.Mathlib.Omega.{arith}
 use lib.ListN.{length}
+use Rattle.std.proofs.lemmas.Result.{err_from_is_err_and}
 use Rattle.controller.proofs.Refusals.{by_why, by_fits, fits_none}
 use Rattle.shades.specs.Shades.{exported}
 use Rattle.save.specs.Save.{save_length}
@@ -9,7 +10,9 @@ use Rattle.save.proofs.Saved.{save_refuses, save_fits, fit_lengths}
 use Rattle.save.proofs.writing.save.Goals as goal
 
 pub returns-in_err-judge_save : goal.returns-in_err-judge_save
-returns-in_err-judge_save c = by_why (save_refuses _ _ _ _) _ c.judge_save.ensures _ c.in_err-judge_save.was
+returns-in_err-judge_save c =
+    let p = err_from_is_err_and c.from_residual.result c.from_residual.ensures.1 in
+    rw (p.1, p.2) (by_why (save_refuses _ _ _ _) _ c.judge_save.ensures _ c.in_err-judge_save.was)
 
 pub put_save-requires : goal.put_save-requires
 put_save-requires c =

@@ -1,7 +1,7 @@
 -- `script::text::feed` meets its contract: the invariant is `Going`: what is left from here is the whole from the start. Assumes nothing.
 use borrow.Author.Rules.{rules}
 use mathlib.Core.Path.{◌≡◌, refl, sym, ap, ◌∙◌}
-use Prim.Native.Nat.{◌-◌}
+use Prim.Native.Nat.{◌-◌, ◌≤◌}
 use native.Mathlib.Omega.{arith}
 use lib.ListN.{length, take}
 use Rattle.layout.specs.Layout.{decoded}
@@ -18,7 +18,7 @@ line_end-end-requires c = omega arith
 pub loop-bytes-init : goal.loop-bytes-init
 loop-bytes-init c =
     let long : length c.args.reader.line ≡ 261 = search rules in
-    let few = c.at_most-held.ensures.1 in
+    let few : c.min-held.result ≤ 261 = omega arith in
     (refl, refl, refl, long, few, c.line_end-end.ensures, going_start _ _ _ _ _ (few_held _ _ few), c.bytes_of-bytes.ensures.0)
 
 pub overflow_sub-out : goal.overflow_sub-out
@@ -115,7 +115,7 @@ returns c =
       ap (λ x. leaving (world x l.ram l.store l.image) l.out l.end l.at c.holding-rest.result) c.decode-next.ensures
           ∙ ap (leaving (world (decoded l.bytes) l.ram l.store l.image) l.out l.end l.at) (c.holding-rest.ensures ∙ ap reader_of kept)
           ∙ going_done _ _ _ _ _ _ _ _ _ (going_on _ _ _ _ _ _ _ _ _ _ l.invariant.6 l.invariant.5) l.invariant.5.found _ c.answered.ensures c.loop-bytes-test.false
-          ∙ begun a.rom.now _ a.reader a.piece.now a.out.now _ c.at_most-held.ensures.0
+          ∙ begun a.rom.now _ a.reader a.piece.now a.out.now _ c.min-held.ensures
           ∙ ap (λ x. feed_means a.rom.now (world x a.ram.now a.store.now a.image.now) a.reader a.piece.now a.out.now) c.bytes_of-bytes.ensures.1,
       l.invariant.5.inside,
       omega (arith, l.invariant.6.room, l.invariant.6.same),

@@ -11,14 +11,14 @@ use Rattle.script.proofs.text.finish.Goals as goal
 
 pub returns-then-held-eq0 : goal.returns-then-held-eq0
 returns-then-held-eq0 c =
-    let e = sym c.at_most-held.ensures.0 ∙ c.if-held-eq0.true in
+    let e = sym c.min-held.ensures ∙ c.if-held-eq0.true in
     (sym (ap saying (finish_none _ _ _ e)), omega arith)
 
 pub returns : goal.returns
 returns c =
     let a = c.args in
     let long : length c.args.reader.line ≡ 261 = search rules in
-    let m = c.at_most-held.ensures.0 in
+    let m = c.min-held.ensures in
     let d = c.step.ensures in
     (d.0 ∙ ap saying (ap (λ h. step_of a.rom.now (world a.state a.ram.now a.store.now a.image.now) (take h a.reader.line)) m ∙ sym (finish_some _ _ _ long (λ z. c.if-held-eq0.false (m ∙ z)))), d.1)
 

@@ -5,11 +5,11 @@ use Rattle.session.specs.Answer.{answer_text}
 use Rattle.session.proofs.Texts.{refused_text}
 use Rattle.session.proofs.session.read_answer.Goals as goal
 
-pub returns-in-Byte : goal.returns-in-Byte
+pub returns-in-Ok : goal.returns-in-Ok
 unfolding answer_text
-returns-in-Byte c = (rw c.in-Byte.is refl, record { few = omega arith; small = omega arith })
+returns-in-Ok c = (rw (c.in-Ok.is, c.from.ensures) refl, record { few = omega arith; small = omega arith })
 
-pub returns-in-Refused : goal.returns-in-Refused
-returns-in-Refused c =
-    let n = c.in-Refused.n in
-    (rw c.in-Refused.is (c.refused.ensures.0 ∙ refused_text n 0 0 ∙ sym (refused_text n 2 0)), c.refused.ensures.1)
+pub returns-in-Err : goal.returns-in-Err
+returns-in-Err c =
+    let n = c.in-Err.why in
+    (rw c.in-Err.is (c.refused.ensures.0 ∙ refused_text n 0 0 ∙ sym (refused_text n 2 0)), c.refused.ensures.1)
