@@ -139,18 +139,15 @@ fn row_line(line: &[u8]) -> Frame
 }
 
 // The frame that a line says.
+#[tactic(auto, using(crate::proofs::Begins::by_kind))]
 pub fn frame_of(line: &[u8]) -> Frame
     ensures { result ≡ frame_of line.now }
 {
-    if line.len() < 2 {
-        return Frame::Malformed;
-    }
     // no kind but 00 to 04 is one
-    if line[0] != b'0' {
+    let [b'0', kind, ..] = line else {
         return Frame::Malformed;
-    }
-    let kind = line[1];
-    match kind {
+    };
+    match *kind {
         b'0' => reset_line(line),
         b'1' => read_line(line),
         b'2' => write_line(line),

@@ -25,9 +25,9 @@ impl<'a> LineReader<'a> {
         ensures moved { (self.new.line ≡ self.old.line) × (self.new.at ≡ self.old.at + N) }
         ensures bytes { result.now ≡ take N (drop self.old.at self.old.line.now) }
     {
-        let from = self.at;
+        let bytes = self.line[self.at..self.at + N].try_into().unwrap();
         self.at += N;
-        self.line[from..self.at].try_into().unwrap()
+        bytes
     }
 
     // The number that the next N digits spell: at most eight. The reader stands after them then.
