@@ -1,9 +1,8 @@
 -- Digits and the numbers that they spell: laws of `digit_of`, `hex_part`, `number_at` and `number_of`. Assumes nothing.
-use Rattle.std.proofs.Common.{◌≡◌, ℕ, zero, suc, ◌+◌, ◌-◌, ◌*◌, ◌/◌, ◌%◌, ◌^◌, ◌<◌, ◌≤◌, Bool, true, false, ◌&&◌, leb, Option, Some, None, List, [], ◌∷◌, ◌++◌, length, get_or, take, drop, take_at, sym, refl, ap, ap₂, ◌∙◌, add-zero, add_assoc, add-suc, pow-suc, zero-add, add-one, arith, lit<, le-ltb, lt-ltb, le-leb, leb-true}
+use Rattle.std.proofs.Common.{◌≡◌, ℕ, zero, suc, ◌+◌, ◌-◌, ◌*◌, ◌^◌, ◌<◌, ◌≤◌, Bool, true, false, ◌&&◌, leb, Option, Some, None, List, [], ◌∷◌, ◌++◌, length, get_or, take, drop, take_at, sym, refl, ap, ap₂, ◌∙◌, add-zero, add_assoc, add-suc, pow-suc, zero-add, add-one, arith, lit<, le-ltb, lt-ltb, le-leb, leb-true}
 use Rattle.std.proofs.lemmas.List.{get_or-take, get_or-drop, length_push}
 use lib.Seq.{get_or_at}
 use mathlib.Core.Bool.{and-true, and-false, and_assoc, false≢true}
-use native.Mathlib.Nat.{pow-le-pow_right}
 use borrow.Author.Tests.{lt-leb}
 use Rattle.laws.specs.Pick.{pick}
 use Rattle.laws.proofs.Bools.{either, both_left, both_right}
@@ -45,22 +44,6 @@ digit_back b h =
     split b 0x30
     (λ m. absurd (false≢true (simp (lt-leb 0x30 b m, lt-leb 0x41 b (omega arith)) at h)))
     (λ m. let w : b - 0x30 < 10 = omega arith in simp (le-leb b 0x39 l, lt-ltb (b - 0x30) 10 w) (omega arith)))
-
--- a byte outside 30h to 46h, and one in 3Ah to 40h, is no digit; any other is one
-pub outside : (b past : ℕ) → (past + 48) % 256 ≡ b → 22 < past → past < 256 → is_hex b ≡ false
-outside b past e h s =
-    split b 0x30
-    (λ l. simp (lt-leb 0x30 b l, lt-leb 0x41 b (omega arith)))
-    (λ l. simp (le-leb 0x30 b l, lt-leb b 0x39 (omega arith), le-leb 0x41 b (omega arith), lt-leb b 0x46 (omega arith)))
-
-pub in_gap_lem : (b gap : ℕ) → (gap + 58) % 256 ≡ b → gap < 7 → is_hex b ≡ false
-in_gap_lem b gap e h = simp (le-leb 0x30 b (omega arith), lt-leb b 0x39 (omega arith), lt-leb 0x41 b (omega arith))
-
-pub inside : (b past gap : ℕ) → (past + 48) % 256 ≡ b → (gap + 58) % 256 ≡ b → past ≤ 22 → 7 ≤ gap → gap < 256 → (is_hex b ≡ true) × (b % 16 + b / 64 * 9 ≡ worth b)
-inside b past gap p q h k s =
-    split 0x39 b
-    (λ l. (simp (le-leb 0x30 b (omega arith), lt-leb b 0x39 l, le-leb 0x41 b (omega arith), le-leb b 0x46 (omega arith)), simp (lt-leb b 0x39 l) (omega arith)))
-    (λ l. (simp (le-leb 0x30 b (omega arith), le-leb b 0x39 l), simp (le-leb b 0x39 l) (omega arith)))
 
 -- one digit more
 pub hex_more : (line : List ℕ) (at n : ℕ) → hex_part line at (n + 1) ≡ (hex_part line at n && is_hex (get_or line (at + n) 0))
@@ -129,10 +112,6 @@ pub number_some : (line : List ℕ) (at n : ℕ) → hex_part line at n ≡ true
 unfolding number_of
 number_some line at n h = simp h
 
--- fewer than eight digits leave room for one more
-pub room : (v i : ℕ) → v < 16 ^ i → i < 8 → v < 268435456
-room v i h l = omega (arith, pow-le-pow_right {n = 16} (lit< tt) {i = i} {j = 7} (omega arith))
-
 -- a part of digits is digits
 pub hex_within : (line : List ℕ) (n k m : ℕ) → hex_part line 0 n ≡ true → k + m ≤ n → hex_part line k m ≡ true
 hex_within line n k m h l =
@@ -145,27 +124,6 @@ hex_within line n k m h l =
 pub digit_within : (line : List ℕ) (at n k : ℕ) → hex_part line at n ≡ true → k < n → is_hex (get_or line (at + k) 0) ≡ true
 digit_within line at n k h l = either (is_hex (get_or line (at + k) 0)) (λ t. t) (λ f. absurd (false≢true (sym (hex_stops line at k n l f) ∙ h)))
 
--- what is left after the tests of a byte tells whether it is a digit
-pub gap_tells : (b past gap : ℕ) → (past + 48) % 256 ≡ b → (gap + 58) % 256 ≡ b → past ≤ 22 → gap < 256 → leb 7 gap ≡ is_hex b
-gap_tells b past gap p q h s =
-    split 6 gap
-    (λ l. le-leb 7 gap (omega arith) ∙ sym (inside b past gap p q h (omega arith) s).0)
-    (λ l. lt-leb 7 gap (omega arith) ∙ sym (in_gap_lem b gap q (omega arith)))
-
--- what a digit is worth, with no test
-pub hex_worth : (b : ℕ) → is_hex b ≡ true → b % 16 + b / 64 * 9 ≡ worth b
-hex_worth b h =
-    split 0x39 b
-    (λ l.
-    let m = sym (above b l) ∙ h in
-    let low : 0x41 ≤ b = leb-true 0x41 b (both_left (leb 0x41 b) (leb b 0x46) m) in
-    let top : b ≤ 0x46 = leb-true b 0x46 (both_right (leb 0x41 b) (leb b 0x46) m) in
-    simp (lt-leb b 0x39 l) (omega arith))
-    (λ l.
-    split b 0x30
-    (λ m. absurd (false≢true (simp (lt-leb 0x30 b m, lt-leb 0x41 b (omega arith)) at h)))
-    (λ m. simp (le-leb b 0x39 l) (omega arith)))
-
 -- no digit spells 0
 pub number_zero : (line : List ℕ) (at : ℕ) → number_at line at 0 ≡ 0
 unfolding number_at
@@ -176,40 +134,6 @@ pub two_number : (line : List ℕ) (at a b : ℕ) → a ≡ worth (get_or line a
 two_number line at a b ea eb =
     let first = ap (λ (n : ℕ). worth (get_or line n 0)) (add-zero at) in
     omega (arith, number_zero line at, number_more line at 0, number_more line at 1, first)
-
--- four digits, each by its place
-pub four_number : (line : List ℕ) (at a b c d : ℕ) → a ≡ worth (get_or line at 0) → b ≡ worth (get_or line (at + 1) 0) → c ≡ worth (get_or line (at + 2) 0) → d ≡ worth (get_or line (at + 3) 0) → a * 4096 + b * 256 + c * 16 + d ≡ number_at line at 4
-four_number line at a b c d ea eb ec ed =
-    let first = ap (λ (n : ℕ). worth (get_or line n 0)) (add-zero at) in
-    omega (arith, number_zero line at, number_more line at 0, number_more line at 1, number_more line at 2, number_more line at 3, first)
-
--- eight digits are four and four
-pub eight_number : (line : List ℕ) (at : ℕ) → number_at line at 4 * 65536 + number_at line (at + 4) 4 ≡ number_at line at 8
-eight_number line at =
-    omega (
-      arith,
-      number_more line at 4,
-      number_more line at 5,
-      number_more line at 6,
-      number_more line at 7,
-      number_zero line (at + 4),
-      number_more line (at + 4) 0,
-      number_more line (at + 4) 1,
-      number_more line (at + 4) 2,
-      number_more line (at + 4) 3,
-      same 0,
-      same 1,
-      same 2,
-      same 3,
-    )
-  where
-    same : (k : ℕ) → worth (get_or line (at + 4 + k) 0) ≡ worth (get_or line (at + (4 + k)) 0)
-    same k = ap (λ (n : ℕ). worth (get_or line n 0)) (add_assoc at 4 k)
-
-pub eight_halves : (line : List ℕ) (at : ℕ) → hex_part line at 8 ≡ true → (hex_part line at 4 ≡ true) × (hex_part line (at + 4) 4 ≡ true)
-eight_halves line at h =
-    let b = sym (hex_parts line at 4 4) ∙ h in
-    (both_left (hex_part line at 4) (hex_part line (at + 4) 4) b, both_right (hex_part line at 4) (hex_part line (at + 4) 4) b)
 
 -- a part of a line, cut out of it: its digits are the line's
 cut_at : (line : List ℕ) (at n i : ℕ) → i < n → get_or (take n (drop at line)) (0 + i) 0 ≡ get_or line (at + i) 0

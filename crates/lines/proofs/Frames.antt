@@ -18,22 +18,6 @@ this : (t : Bool) (a b x : Frame) → pick t a b ≡ x → (b ≡ x → ⊥) →
 this true a b x e differs = (refl, e)
 this false a b x e differs = absurd (differs e)
 
--- a row is no other frame
-no_reset : (y : ℕ) → Reset ≡ Row y → ⊥
-no_reset y e = let n : ◌≡◌ {A = ℕ} 0 1 = cc in omega arith
-
-no_read : (a y : ℕ) → Read a ≡ Row y → ⊥
-no_read a y e = let n : ◌≡◌ {A = ℕ} 0 1 = cc in omega arith
-
-no_write : (a v y : ℕ) → Write a v ≡ Row y → ⊥
-no_write a v y e = let n : ◌≡◌ {A = ℕ} 0 1 = cc in omega arith
-
-no_tick : (k y : ℕ) → Tick k ≡ Row y → ⊥
-no_tick k y e = let n : ◌≡◌ {A = ℕ} 0 1 = cc in omega arith
-
-no_malformed : (y : ℕ) → Malformed ≡ Row y → ⊥
-no_malformed y e = let n : ◌≡◌ {A = ℕ} 0 1 = cc in omega arith
-
 module _ (line : List ℕ) where
   -- digits that spell no frame
   pub wrong : spelled line ≡ Malformed → frame_of line ≡ Malformed
@@ -68,12 +52,12 @@ module _ (line : List ℕ) where
   pub row_facts : (y : ℕ) → frame_of line ≡ Row y → (length line ≡ 260) × (hex_part line 0 260 ≡ true) × (y < 128)
   unfolding frame_of spelled
   row_facts y e =
-      let h = this (hex_part line 0 (length line)) (spelled line) Malformed (Row y) e (no_malformed y) in
-      let a = other (is_line line 0 2) Reset _ (Row y) h.1 (no_reset y) in
-      let b = other (is_line line 1 6) (Read (number_at line 2 4)) _ (Row y) a (no_read _ y) in
-      let c = other (is_line line 2 8) (Write (number_at line 2 4) (number_at line 6 2)) _ (Row y) b (no_write _ _ y) in
-      let d = other (is_line line 3 10) (Tick (number_at line 2 8)) _ (Row y) c (no_tick _ y) in
-      let r = this (is_line line 4 260 && leb (number_at line 2 2) 0x7F) (Row (number_at line 2 2)) Malformed (Row y) d (no_malformed y) in
+      let h = this (hex_part line 0 (length line)) (spelled line) Malformed (Row y) e (λ n. cc) in
+      let a = other (is_line line 0 2) Reset _ (Row y) h.1 (λ n. cc) in
+      let b = other (is_line line 1 6) (Read (number_at line 2 4)) _ (Row y) a (λ n. cc) in
+      let c = other (is_line line 2 8) (Write (number_at line 2 4) (number_at line 6 2)) _ (Row y) b (λ n. cc) in
+      let d = other (is_line line 3 10) (Tick (number_at line 2 8)) _ (Row y) c (λ n. cc) in
+      let r = this (is_line line 4 260 && leb (number_at line 2 2) 0x7F) (Row (number_at line 2 2)) Malformed (Row y) d (λ n. cc) in
       let is = both_left (is_line line 4 260) (leb (number_at line 2 2) 0x7F) r.0 in
       let long = eqb-true (length line) 260 (both_right (eqb (number_at line 0 2) 4) (eqb (length line) 260) is) in
       let small = leb-true (number_at line 2 2) 0x7F (both_right (is_line line 4 260) (leb (number_at line 2 2) 0x7F) r.0) in

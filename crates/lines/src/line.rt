@@ -19,7 +19,8 @@ pub enum Frame {
 fn is_digit(b: u8) -> bool
     ensures { result ≡ is_hex b }
 {
-    (b.wrapping_sub(b'0') < 10) | (b.wrapping_sub(b'A') < 6)
+    // in 30h to 46h, and not in 3Ah to 40h
+    (b.wrapping_sub(b'0') <= 22) & (7 <= b.wrapping_sub(58))
 }
 
 // What a digit is worth.
@@ -43,8 +44,8 @@ fn spelt<const N: usize>(digits: &[u8; N]) -> u32
     ensures { result ≡ number_at digits.now 0 N }
 {
     let mut v = 0;
-    for b in digits {
-        v = v * 16 + worth_of(*b);
+    for (k, b) in digits.iter().enumerate() {
+        v += worth_of(*b) << (4 * (N - 1 - k));
     }
     v
 }

@@ -31,6 +31,7 @@ impl<'a> LineReader<'a> {
     }
 
     // The number that the next N digits spell: at most eight. The reader stands after them then.
+    #[inline]
     #[tactic(auto, using(crate::proofs::Digits::of_cut))]
     pub(crate) fn number<const N: usize>(&mut self) -> Option<u32>
         requires { (self.old.at + N ≤ length self.old.line.now) × (N ≤ 8) }

@@ -1,8 +1,8 @@
 -- `lines::line::row_line` meets its contract: the kind is known, and length, row and digits decide. Assumes nothing.
 use mathlib.Core.Bool.{and-false}
-use Rattle.std.proofs.Common.{◌≡◌, ℕ, ◌≤◌, Bool, List, take, drop, length, sym, ap, ◌∙◌, arith, eq-eqb, ne_eqb, le-leb}
+use Rattle.std.proofs.Common.{◌≡◌, ℕ, Bool, List, take, drop, length, sym, ap, ◌∙◌, arith, eq-eqb, ne_eqb, le-leb}
 use borrow.Author.Tests.{lt-leb}
-use Rattle.lines.specs.Line.{hex_part, number_of, spelled}
+use Rattle.lines.specs.Line.{hex_part, spelled}
 use Rattle.lines.proofs.Digits.{some_of, hex_cut, hex_joined, hex_broken}
 use Rattle.lines.proofs.Frames.{wrong, bad, good, unread, read_on}
 use Rattle.lines.proofs.line.row_line.Goals as goal

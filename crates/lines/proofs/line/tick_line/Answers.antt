@@ -1,7 +1,7 @@
 -- `lines::line::tick_line` meets its contract: the kind is known, and length and digits decide. Assumes nothing.
 use Rattle.std.proofs.Common.{◌≡◌, length, sym, ◌∙◌, arith, eq-eqb, ne_eqb}
 use Rattle.lines.specs.Line.{number_of, spelled}
-use Rattle.lines.proofs.Digits.{Spells, some_of}
+use Rattle.lines.proofs.Digits.{some_of}
 use Rattle.lines.proofs.Frames.{wrong, good, unread, read_on}
 use Rattle.lines.proofs.line.tick_line.Goals as goal
 
