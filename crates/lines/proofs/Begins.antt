@@ -6,7 +6,7 @@ use Rattle.lines.specs.declared.line.Frame.TheVariants.{Malformed}
 use Rattle.lines.specs.Hex.{digit_byte}
 use Rattle.lines.specs.Line.{is_hex, worth, hex_part, number_at, spelled, frame_of}
 use Rattle.lines.proofs.Digits.{hex_more, hex_fails, number_more, number_zero, digit_within, digit_back}
-use Rattle.lines.proofs.Frames.{wrong, bad}
+use Rattle.lines.proofs.Frames.{wrong, bad, too_short_lem}
 
 -- a byte 30h to 39h is a digit, worth as much as it is over 30h
 numeral : (b k : ℕ) → b ≡ 0x30 + k → k < 10 → (is_hex b ≡ true) × (worth b ≡ k)
@@ -32,12 +32,18 @@ module _ (line : List ℕ) where
   two = omega (arith, number_zero line 0, number_more line 0 0, number_more line 0 1)
 
   -- `00` to `09` are digits that spell their kind
-  pub kind_is : (k : ℕ) → k < 10 → get_or line 0 0 ≡ 0x30 → get_or line 1 0 ≡ 0x30 + k → (hex_part line 0 2 ≡ true) × (number_at line 0 2 ≡ k)
+  pub kind_hex : get_or line 0 0 ≡ 0x30 → 0x30 ≤ get_or line 1 0 → get_or line 1 0 ≤ 0x39 → hex_part line 0 2 ≡ true
   unfolding hex_part
-  kind_is k l e₀ e₁ =
-      let a = numeral (get_or line 0 0) 0 e₀ (omega arith) in
-      let b = numeral (get_or line 1 0) k e₁ l in
-      (hex_more line 0 1 ∙ both_hold (hex_more line 0 0 ∙ both_hold refl a.0) b.0, omega (arith, two, a.1, b.1))
+  kind_hex e l h =
+      let a = numeral (get_or line 0 0) 0 e (omega arith) in
+      let b = numeral (get_or line 1 0) (get_or line 1 0 - 0x30) (omega arith) (omega arith) in
+      hex_more line 0 1 ∙ both_hold (hex_more line 0 0 ∙ both_hold refl a.0) b.0
+
+  pub kind_number : get_or line 0 0 ≡ 0x30 → 0x30 ≤ get_or line 1 0 → get_or line 1 0 ≤ 0x39 → number_at line 0 2 + 0x30 ≡ get_or line 1 0
+  kind_number e l h =
+      let a = numeral (get_or line 0 0) 0 e (omega arith) in
+      let b = numeral (get_or line 1 0) (get_or line 1 0 - 0x30) (omega arith) (omega arith) in
+      omega (arith, two, a.1, b.1)
 
   -- a line of another kind
   no_kind : 2 ≤ length line → (hex_part line 0 2 ≡ true → 4 < number_at line 0 2) → frame_of line ≡ Malformed
@@ -69,3 +75,6 @@ module _ (line : List ℕ) where
       split 4 (worth (get_or line 1 0))
       (λ m. omega (arith, two))
       (λ m. absurd (five (worth (get_or line 1 0)) (get_or line 1 0) m (back (get_or line 1 0) (digit_within line 0 2 1 h (omega arith)) (omega arith)) n₀ n₁ n₂ n₃ n₄)))
+
+-- what the first two bytes tell, for the function that looks at them
+pub ruleset by_kind = (first_other, second_other, kind_hex, kind_number, too_short_lem)

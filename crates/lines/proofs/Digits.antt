@@ -1,33 +1,22 @@
 -- Digits and the numbers that they spell: laws of `digit_of`, `hex_part`, `number_at` and `number_of`. Assumes nothing.
-use Rattle.std.proofs.Common.{◌≡◌, ℕ, zero, suc, ◌+◌, ◌-◌, ◌*◌, ◌/◌, ◌%◌, ◌^◌, ◌<◌, ◌≤◌, Bool, true, false, ◌&&◌, leb, List, get_or, sym, refl, ap, ◌∙◌, add-zero, add_assoc, add-suc, pow-suc, zero-add, add-one, arith, lit<, le-ltb, lt-ltb, le-leb, leb-true}
+use Rattle.std.proofs.Common.{◌≡◌, ℕ, zero, suc, ◌+◌, ◌-◌, ◌*◌, ◌^◌, ◌<◌, ◌≤◌, Bool, true, false, ◌&&◌, leb, Option, Some, None, List, [], ◌∷◌, ◌++◌, length, get_or, take, drop, take_at, sym, refl, ap, ap₂, ◌∙◌, add-zero, add_assoc, add-suc, pow-suc, zero-add, add-one, arith, lit<, le-ltb, lt-ltb, le-leb, leb-true}
+use Rattle.std.proofs.lemmas.List.{get_or-take, get_or-drop, length_push}
+use lib.Seq.{get_or_at}
 use mathlib.Core.Bool.{and-true, and-false, and_assoc, false≢true}
-use native.Mathlib.Nat.{pow-le-pow_right}
 use borrow.Author.Tests.{lt-leb}
 use Rattle.laws.specs.Pick.{pick}
 use Rattle.laws.proofs.Bools.{either, both_left, both_right}
 use Rattle.laws.proofs.Order.{split}
-use Rattle.lines.specs.declared.line.Digit.{Digit}
-use Rattle.lines.specs.declared.line.Digit.TheVariants as digits
-use Rattle.lines.specs.declared.line.Number.{Number}
-use Rattle.lines.specs.declared.line.Number.TheVariants as numbers
 use Rattle.lines.specs.Hex.{digit_byte}
-use Rattle.lines.specs.Line.{is_hex, worth, digit_of, hex_part, number_at, number_of}
+use Rattle.lines.specs.Line.{is_hex, worth, hex_part, number_at, number_of}
 
 -- an answer that is a value was picked by a test that held
-pub digit_is : (t : Bool) (v d : ℕ) → pick t (digits.Value v) digits.NotHex ≡ digits.Value d → (t ≡ true) × (d ≡ v)
-digit_is true v d e = (refl, cc)
-digit_is false v d e = absurd (let n : ◌≡◌ {A = ℕ} 0 1 = cc in omega arith)
-
-pub digit_isnt : (t : Bool) (v : ℕ) → pick t (digits.Value v) digits.NotHex ≡ digits.NotHex → t ≡ false
-digit_isnt true v e = absurd (let n : ◌≡◌ {A = ℕ} 0 1 = cc in omega arith)
-digit_isnt false v e = refl
-
-pub number_is : (t : Bool) (v d : ℕ) → pick t (numbers.Value v) numbers.NotHex ≡ numbers.Value d → (t ≡ true) × (d ≡ v)
+pub number_is : (t : Bool) (v d : ℕ) → pick t (Some v) None ≡ Some d → (t ≡ true) × (d ≡ v)
 number_is true v d e = (refl, cc)
-number_is false v d e = absurd (let n : ◌≡◌ {A = ℕ} 0 1 = cc in omega arith)
+number_is false v d e = absurd (cc)
 
-pub number_isnt : (t : Bool) (v : ℕ) → pick t (numbers.Value v) numbers.NotHex ≡ numbers.NotHex → t ≡ false
-number_isnt true v e = absurd (let n : ◌≡◌ {A = ℕ} 0 1 = cc in omega arith)
+pub number_isnt : (t : Bool) (v : ℕ) → pick t (Some v) None ≡ None → t ≡ false
+number_isnt true v e = absurd (cc)
 number_isnt false v e = refl
 
 -- past 39h a digit is a letter
@@ -55,31 +44,6 @@ digit_back b h =
     split b 0x30
     (λ m. absurd (false≢true (simp (lt-leb 0x30 b m, lt-leb 0x41 b (omega arith)) at h)))
     (λ m. let w : b - 0x30 < 10 = omega arith in simp (le-leb b 0x39 l, lt-ltb (b - 0x30) 10 w) (omega arith)))
-
--- a byte outside 30h to 46h, and one in 3Ah to 40h, is no digit; any other is one
-pub outside : (b past : ℕ) → (past + 48) % 256 ≡ b → 22 < past → past < 256 → is_hex b ≡ false
-outside b past e h s =
-    split b 0x30
-    (λ l. simp (lt-leb 0x30 b l, lt-leb 0x41 b (omega arith)))
-    (λ l. simp (le-leb 0x30 b l, lt-leb b 0x39 (omega arith), le-leb 0x41 b (omega arith), lt-leb b 0x46 (omega arith)))
-
-pub in_gap_lem : (b gap : ℕ) → (gap + 58) % 256 ≡ b → gap < 7 → is_hex b ≡ false
-in_gap_lem b gap e h = simp (le-leb 0x30 b (omega arith), lt-leb b 0x39 (omega arith), lt-leb 0x41 b (omega arith))
-
-pub inside : (b past gap : ℕ) → (past + 48) % 256 ≡ b → (gap + 58) % 256 ≡ b → past ≤ 22 → 7 ≤ gap → gap < 256 → (is_hex b ≡ true) × (b % 16 + b / 64 * 9 ≡ worth b)
-inside b past gap p q h k s =
-    split 0x39 b
-    (λ l. (simp (le-leb 0x30 b (omega arith), lt-leb b 0x39 l, le-leb 0x41 b (omega arith), le-leb b 0x46 (omega arith)), simp (lt-leb b 0x39 l) (omega arith)))
-    (λ l. (simp (le-leb 0x30 b (omega arith), le-leb b 0x39 l), simp (le-leb b 0x39 l) (omega arith)))
-
--- what a byte is taken as
-pub as_none : (b : ℕ) → is_hex b ≡ false → digits.NotHex ≡ digit_of b
-unfolding digit_of
-as_none b h = simp h
-
-pub as_digit : (b v : ℕ) → (is_hex b ≡ true) × (v ≡ worth b) → digits.Value v ≡ digit_of b
-unfolding digit_of
-as_digit b v h = simp h.0 (ap digits.Value h.1)
 
 -- one digit more
 pub hex_more : (line : List ℕ) (at n : ℕ) → hex_part line at (n + 1) ≡ (hex_part line at n && is_hex (get_or line (at + n) 0))
@@ -119,7 +83,7 @@ pub hex_broken : (line : List ℕ) (at n m : ℕ) → hex_part line at n ≡ tru
 hex_broken line at n m p q = hex_parts line at n m ∙ simp (p, q)
 
 -- what a number that was read, or was not, tells of the line
-pub none_of : (line : List ℕ) (at n : ℕ) (r : Number) → r ≡ number_of line at n → r ≡ numbers.NotHex → hex_part line at n ≡ false
+pub none_of : (line : List ℕ) (at n : ℕ) (r : Option ℕ) → r ≡ number_of line at n → r ≡ None → hex_part line at n ≡ false
 unfolding number_of
 none_of line at n r e f = number_isnt (hex_part line at n) (number_at line at n) (sym e ∙ f)
 
@@ -128,22 +92,11 @@ pub record Spells (line : List ℕ) (at n v : ℕ) : Type 0 where
   pub is : v ≡ number_at line at n
   pub small : v < 16 ^ n
 
-pub some_of : (line : List ℕ) (at n : ℕ) (r : Number) (v : ℕ) → r ≡ number_of line at n → r ≡ numbers.Value v → Spells line at n v
+pub some_of : (line : List ℕ) (at n : ℕ) (r : Option ℕ) (v : ℕ) → r ≡ number_of line at n → r ≡ Some v → Spells line at n v
 unfolding number_of
 some_of line at n r v e f =
     let s = number_is (hex_part line at n) (number_at line at n) v (sym e ∙ f) in
     record { hex = s.0; is = s.1; small = rw s.1 (number_small line at n s.0) }
-
--- what a byte that was taken for a digit tells
-pub some_digit : (b : ℕ) (r : Digit) (d : ℕ) → r ≡ digit_of b → r ≡ digits.Value d → (is_hex b ≡ true) × (d ≡ worth b) × (d < 16)
-unfolding digit_of
-some_digit b r d e f =
-    let s = digit_is (is_hex b) (worth b) d (sym e ∙ f) in
-    (s.0, s.1, rw s.1 (worth_small b s.0))
-
-pub no_digit : (b : ℕ) (r : Digit) → r ≡ digit_of b → r ≡ digits.NotHex → is_hex b ≡ false
-unfolding digit_of
-no_digit b r e f = digit_isnt (is_hex b) (worth b) (sym e ∙ f)
 
 -- a part with a byte that is no digit is none
 pub hex_stops : (line : List ℕ) (at i n : ℕ) → i < n → is_hex (get_or line (at + i) 0) ≡ false → hex_part line at n ≡ false
@@ -151,17 +104,13 @@ hex_stops line at i n l h =
     let e : n ≡ (i + 1) + (n - (i + 1)) = omega arith in
     ap (hex_part line at) e ∙ hex_fails line at (i + 1) (n - (i + 1)) (hex_more line at i ∙ simp (h, and-false))
 
-pub number_none : (line : List ℕ) (at n : ℕ) → hex_part line at n ≡ false → number_of line at n ≡ numbers.NotHex
+pub number_none : (line : List ℕ) (at n : ℕ) → hex_part line at n ≡ false → number_of line at n ≡ None
 unfolding number_of
 number_none line at n h = simp h
 
-pub number_some : (line : List ℕ) (at n : ℕ) → hex_part line at n ≡ true → number_of line at n ≡ numbers.Value (number_at line at n)
+pub number_some : (line : List ℕ) (at n : ℕ) → hex_part line at n ≡ true → number_of line at n ≡ Some (number_at line at n)
 unfolding number_of
 number_some line at n h = simp h
-
--- fewer than eight digits leave room for one more
-pub room : (v i : ℕ) → v < 16 ^ i → i < 8 → v < 268435456
-room v i h l = omega (arith, pow-le-pow_right {n = 16} (lit< tt) {i = i} {j = 7} (omega arith))
 
 -- a part of digits is digits
 pub hex_within : (line : List ℕ) (n k m : ℕ) → hex_part line 0 n ≡ true → k + m ≤ n → hex_part line k m ≡ true
@@ -175,27 +124,6 @@ hex_within line n k m h l =
 pub digit_within : (line : List ℕ) (at n k : ℕ) → hex_part line at n ≡ true → k < n → is_hex (get_or line (at + k) 0) ≡ true
 digit_within line at n k h l = either (is_hex (get_or line (at + k) 0)) (λ t. t) (λ f. absurd (false≢true (sym (hex_stops line at k n l f) ∙ h)))
 
--- what is left after the tests of a byte tells whether it is a digit
-pub gap_tells : (b past gap : ℕ) → (past + 48) % 256 ≡ b → (gap + 58) % 256 ≡ b → past ≤ 22 → gap < 256 → leb 7 gap ≡ is_hex b
-gap_tells b past gap p q h s =
-    split 6 gap
-    (λ l. le-leb 7 gap (omega arith) ∙ sym (inside b past gap p q h (omega arith) s).0)
-    (λ l. lt-leb 7 gap (omega arith) ∙ sym (in_gap_lem b gap q (omega arith)))
-
--- what a digit is worth, with no test
-pub hex_worth : (b : ℕ) → is_hex b ≡ true → b % 16 + b / 64 * 9 ≡ worth b
-hex_worth b h =
-    split 0x39 b
-    (λ l.
-    let m = sym (above b l) ∙ h in
-    let low : 0x41 ≤ b = leb-true 0x41 b (both_left (leb 0x41 b) (leb b 0x46) m) in
-    let top : b ≤ 0x46 = leb-true b 0x46 (both_right (leb 0x41 b) (leb b 0x46) m) in
-    simp (lt-leb b 0x39 l) (omega arith))
-    (λ l.
-    split b 0x30
-    (λ m. absurd (false≢true (simp (lt-leb 0x30 b m, lt-leb 0x41 b (omega arith)) at h)))
-    (λ m. simp (le-leb b 0x39 l) (omega arith)))
-
 -- no digit spells 0
 pub number_zero : (line : List ℕ) (at : ℕ) → number_at line at 0 ≡ 0
 unfolding number_at
@@ -207,36 +135,34 @@ two_number line at a b ea eb =
     let first = ap (λ (n : ℕ). worth (get_or line n 0)) (add-zero at) in
     omega (arith, number_zero line at, number_more line at 0, number_more line at 1, first)
 
--- four digits, each by its place
-pub four_number : (line : List ℕ) (at a b c d : ℕ) → a ≡ worth (get_or line at 0) → b ≡ worth (get_or line (at + 1) 0) → c ≡ worth (get_or line (at + 2) 0) → d ≡ worth (get_or line (at + 3) 0) → a * 4096 + b * 256 + c * 16 + d ≡ number_at line at 4
-four_number line at a b c d ea eb ec ed =
-    let first = ap (λ (n : ℕ). worth (get_or line n 0)) (add-zero at) in
-    omega (arith, number_zero line at, number_more line at 0, number_more line at 1, number_more line at 2, number_more line at 3, first)
+-- a part of a line, cut out of it: its digits are the line's
+cut_at : (line : List ℕ) (at n i : ℕ) → i < n → get_or (take n (drop at line)) (0 + i) 0 ≡ get_or line (at + i) 0
+cut_at line at n i h = simp zero-add (get_or-take n (drop at line) i 0 h ∙ get_or-drop at line i 0)
 
--- eight digits are four and four
-pub eight_number : (line : List ℕ) (at : ℕ) → number_at line at 4 * 65536 + number_at line (at + 4) 4 ≡ number_at line at 8
-eight_number line at =
-    omega (
-      arith,
-      number_more line at 4,
-      number_more line at 5,
-      number_more line at 6,
-      number_more line at 7,
-      number_zero line (at + 4),
-      number_more line (at + 4) 0,
-      number_more line (at + 4) 1,
-      number_more line (at + 4) 2,
-      number_more line (at + 4) 3,
-      same 0,
-      same 1,
-      same 2,
-      same 3,
-    )
-  where
-    same : (k : ℕ) → worth (get_or line (at + 4 + k) 0) ≡ worth (get_or line (at + (4 + k)) 0)
-    same k = ap (λ (n : ℕ). worth (get_or line n 0)) (add_assoc at 4 k)
+pub hex_cut : (line : List ℕ) (at n k : ℕ) → k ≤ n → hex_part (take n (drop at line)) 0 k ≡ hex_part line at k
+unfolding hex_part
+hex_cut line at n zero h = refl
+hex_cut line at n (suc k) h = ap₂ (λ (s t : Bool). s && t) (hex_cut line at n k (omega arith)) (ap is_hex (cut_at line at n k (omega arith)))
 
-pub eight_halves : (line : List ℕ) (at : ℕ) → hex_part line at 8 ≡ true → (hex_part line at 4 ≡ true) × (hex_part line (at + 4) 4 ≡ true)
-eight_halves line at h =
-    let b = sym (hex_parts line at 4 4) ∙ h in
-    (both_left (hex_part line at 4) (hex_part line (at + 4) 4) b, both_right (hex_part line at 4) (hex_part line (at + 4) 4) b)
+pub number_cut : (line : List ℕ) (at n k : ℕ) → k ≤ n → number_at (take n (drop at line)) 0 k ≡ number_at line at k
+unfolding number_at
+number_cut line at n zero h = refl
+number_cut line at n (suc k) h = ap₂ (λ (s t : ℕ). s * 16 + t) (number_cut line at n k (omega arith)) (ap worth (cut_at line at n k (omega arith)))
+
+pub of_cut : (line : List ℕ) (at n : ℕ) → number_of (take n (drop at line)) 0 n ≡ number_of line at n
+unfolding number_of
+of_cut line at n = ap₂ (λ (t : Bool) (v : ℕ). pick t (Some v) None) (hex_cut line at n n (omega arith)) (number_cut line at n n (omega arith))
+
+-- one byte more behind
+pub hex_behind : (bytes : List ℕ) (b : ℕ) → hex_part (bytes ++ (b ∷ [])) 0 (length (bytes ++ (b ∷ []))) ≡ (hex_part bytes 0 (length bytes) && is_hex b)
+hex_behind bytes b =
+    let n = length bytes in
+    let front : take n (drop 0 (bytes ++ (b ∷ []))) ≡ bytes = take_at bytes (b ∷ []) n refl in
+    let last : get_or (bytes ++ (b ∷ [])) (0 + n) 0 ≡ b = simp zero-add (get_or_at bytes b [] 0 n refl) in
+    ap (hex_part (bytes ++ (b ∷ [])) 0) (length_push bytes b)
+    ∙ hex_more (bytes ++ (b ∷ [])) 0 n
+    ∙ ap₂ (λ (s t : Bool). s && t) (sym (hex_cut (bytes ++ (b ∷ [])) 0 n n (omega arith)) ∙ ap (λ l. hex_part l 0 n) front) (ap is_hex last)
+
+pub hex_none : true ≡ hex_part [] 0 0
+unfolding hex_part
+hex_none = refl

@@ -1,12 +1,13 @@
 -- Which lines are malformed: laws of `spelled` and `frame_of`. Assumes nothing.
-use Rattle.std.proofs.Common.{◌≡◌, ℕ, ◌<◌, Bool, true, false, ◌&&◌, eqb, leb, List, length, refl, arith, ne_eqb, eqb-true, leb-true}
+use Rattle.std.proofs.Common.{◌≡◌, ℕ, ◌+◌, ◌<◌, ◌≤◌, Bool, true, false, ◌&&◌, eqb, leb, Option, Some, None, List, length, sym, refl, zero-add, arith, ne_eqb, eqb-true, leb-true}
 use mathlib.Core.Bool.{and-false}
 use Rattle.laws.specs.Pick.{pick}
-use Rattle.laws.proofs.Bools.{both_left, both_right}
+use Rattle.laws.proofs.Bools.{either, not_both, both_left, both_right}
 use Rattle.laws.proofs.Pick.{pick_one}
 use Rattle.lines.specs.declared.line.Frame.{Frame}
 use Rattle.lines.specs.declared.line.Frame.TheVariants.{Reset, Read, Write, Tick, Row, Malformed}
-use Rattle.lines.specs.Line.{is_line, hex_part, number_at, spelled, frame_of}
+use Rattle.lines.specs.Line.{is_line, hex_part, number_at, number_of, spelled, frame_of}
+use Rattle.lines.proofs.Digits.{none_of, some_of, hex_joined, hex_within}
 
 -- what was picked is not what is different
 other : (t : Bool) (a b x : Frame) → pick t a b ≡ x → (a ≡ x → ⊥) → b ≡ x
@@ -16,22 +17,6 @@ other false a b x e differs = e
 this : (t : Bool) (a b x : Frame) → pick t a b ≡ x → (b ≡ x → ⊥) → (t ≡ true) × (a ≡ x)
 this true a b x e differs = (refl, e)
 this false a b x e differs = absurd (differs e)
-
--- a row is no other frame
-no_reset : (y : ℕ) → Reset ≡ Row y → ⊥
-no_reset y e = let n : ◌≡◌ {A = ℕ} 0 1 = cc in omega arith
-
-no_read : (a y : ℕ) → Read a ≡ Row y → ⊥
-no_read a y e = let n : ◌≡◌ {A = ℕ} 0 1 = cc in omega arith
-
-no_write : (a v y : ℕ) → Write a v ≡ Row y → ⊥
-no_write a v y e = let n : ◌≡◌ {A = ℕ} 0 1 = cc in omega arith
-
-no_tick : (k y : ℕ) → Tick k ≡ Row y → ⊥
-no_tick k y e = let n : ◌≡◌ {A = ℕ} 0 1 = cc in omega arith
-
-no_malformed : (y : ℕ) → Malformed ≡ Row y → ⊥
-no_malformed y e = let n : ◌≡◌ {A = ℕ} 0 1 = cc in omega arith
 
 module _ (line : List ℕ) where
   -- digits that spell no frame
@@ -67,14 +52,27 @@ module _ (line : List ℕ) where
   pub row_facts : (y : ℕ) → frame_of line ≡ Row y → (length line ≡ 260) × (hex_part line 0 260 ≡ true) × (y < 128)
   unfolding frame_of spelled
   row_facts y e =
-      let h = this (hex_part line 0 (length line)) (spelled line) Malformed (Row y) e (no_malformed y) in
-      let a = other (is_line line 0 2) Reset _ (Row y) h.1 (no_reset y) in
-      let b = other (is_line line 1 6) (Read (number_at line 2 4)) _ (Row y) a (no_read _ y) in
-      let c = other (is_line line 2 8) (Write (number_at line 2 4) (number_at line 6 2)) _ (Row y) b (no_write _ _ y) in
-      let d = other (is_line line 3 10) (Tick (number_at line 2 8)) _ (Row y) c (no_tick _ y) in
-      let r = this (is_line line 4 260 && leb (number_at line 2 2) 0x7F) (Row (number_at line 2 2)) Malformed (Row y) d (no_malformed y) in
+      let h = this (hex_part line 0 (length line)) (spelled line) Malformed (Row y) e (λ n. cc) in
+      let a = other (is_line line 0 2) Reset _ (Row y) h.1 (λ n. cc) in
+      let b = other (is_line line 1 6) (Read (number_at line 2 4)) _ (Row y) a (λ n. cc) in
+      let c = other (is_line line 2 8) (Write (number_at line 2 4) (number_at line 6 2)) _ (Row y) b (λ n. cc) in
+      let d = other (is_line line 3 10) (Tick (number_at line 2 8)) _ (Row y) c (λ n. cc) in
+      let r = this (is_line line 4 260 && leb (number_at line 2 2) 0x7F) (Row (number_at line 2 2)) Malformed (Row y) d (λ n. cc) in
       let is = both_left (is_line line 4 260) (leb (number_at line 2 2) 0x7F) r.0 in
       let long = eqb-true (length line) 260 (both_right (eqb (number_at line 0 2) 4) (eqb (length line) 260) is) in
       let small = leb-true (number_at line 2 2) 0x7F (both_right (is_line line 4 260) (leb (number_at line 2 2) 0x7F) r.0) in
       let same : number_at line 2 2 ≡ y = cc r.1 in
       (long, rw long at h.0, omega arith)
+
+-- what was read of a line, or could not be: a number of n digits from a place on
+module _ (line : List ℕ) (at n : ℕ) (r : Option ℕ) (is : r ≡ number_of line at n) where
+  -- bytes that are no digits make a line malformed
+  pub unread : at + n ≤ length line → r ≡ None → Malformed ≡ frame_of line
+  unread h e =
+      either (hex_part line 0 (length line))
+      (λ t. not_both (hex_within line (length line) at n t h) (none_of line at n r is e))
+      (λ f. sym (bad line f))
+
+  -- digits up to a number's end
+  pub read_on : (v : ℕ) → hex_part line 0 at ≡ true → r ≡ Some v → hex_part line 0 (at + n) ≡ true
+  read_on v h e = hex_joined line 0 at n h (rw zero-add (some_of line at n r v is e).hex)

@@ -1,5 +1,5 @@
 -- The digits of a number spell that number: laws of `digit_byte` and `hex_text` under `hex_part` and `number_at`. Assumes nothing.
-use Rattle.std.proofs.Common.{◌≡◌, ℕ, zero, suc, ◌+◌, ◌-◌, ◌*◌, ◌/◌, ◌%◌, ◌^◌, ◌<◌, ◌≤◌, true, List, [], ◌∷◌, ◌++◌, length, get_or, sym, refl, ap, subst, ◌∙◌, append_assoc, pow-suc, arith, get_or-append-add, le-ltb, lt-ltb, le-leb}
+use Rattle.std.proofs.Common.{◌≡◌, ℕ, zero, suc, ◌+◌, ◌-◌, ◌*◌, ◌/◌, ◌%◌, ◌^◌, ◌<◌, true, List, [], ◌∷◌, ◌++◌, length, get_or, sym, refl, ap, subst, ◌∙◌, append_assoc, pow-suc, arith, get_or-append-add, le-ltb, lt-ltb, le-leb}
 use lib.Seq.{get_or_at}
 use borrow.Author.Tests.{lt-leb}
 use Rattle.laws.proofs.Bools.{both_hold}

@@ -1,10 +1,6 @@
 -- Bus script: one frame a line, in upper-case hexadecimal. Assumes nothing.
-use Rattle.std.specs.Prelude.{ℕ, zero, suc, ◌+◌, ◌-◌, ◌*◌, Bool, true, ◌&&◌, ◌||◌, List, length, ◌==◌, nat_le, slice_index}
+use Rattle.std.specs.Prelude.{ℕ, zero, suc, ◌+◌, ◌-◌, ◌*◌, Bool, true, ◌&&◌, ◌||◌, ◌≡◌, Option, Some, None, List, length, ◌==◌, nat_le, slice_index}
 use Rattle.laws.specs.Pick.{pick}
-use Rattle.lines.specs.declared.line.Digit.{Digit}
-use Rattle.lines.specs.declared.line.Digit.TheVariants as digits
-use Rattle.lines.specs.declared.line.Number.{Number}
-use Rattle.lines.specs.declared.line.Number.TheVariants as numbers
 use Rattle.lines.specs.declared.line.Frame.{Frame}
 use Rattle.lines.specs.declared.line.Frame.TheVariants.{Reset, Read, Write, Tick, Row, Malformed}
 
@@ -16,10 +12,6 @@ is_hex b = (nat_le 0x30 b && nat_le b 0x39) || (nat_le 0x41 b && nat_le b 0x46)
 abbrev pub worth : ℕ → ℕ
 worth b = pick (nat_le b 0x39) (b - 0x30) (b - 0x41 + 10)
 
--- a byte taken as a digit
-unfoldable pub digit_of : ℕ → Digit
-digit_of b = pick (is_hex b) (digits.Value (worth b)) digits.NotHex
-
 -- n bytes of a line, from `at` on, are all digits
 unfoldable pub hex_part : List ℕ → ℕ → ℕ → Bool
 hex_part line at zero = true
@@ -30,8 +22,12 @@ unfoldable pub number_at : List ℕ → ℕ → ℕ → ℕ
 number_at line at zero = 0
 number_at line at (suc n) = number_at line at n * 16 + worth (slice_index line (at + n))
 
-unfoldable pub number_of : List ℕ → ℕ → ℕ → Number
-number_of line at n = pick (hex_part line at n) (numbers.Value (number_at line at n)) numbers.NotHex
+unfoldable pub number_of : List ℕ → ℕ → ℕ → Option ℕ
+number_of line at n = pick (hex_part line at n) (Some (number_at line at n)) None
+
+-- a line begins with the two digits of a kind
+abbrev pub Begins : List ℕ → ℕ → Type 0
+Begins line kind = (hex_part line 0 2 ≡ true) × (number_at line 0 2 ≡ kind)
 
 -- a line of this kind and length: wrong length and unknown kind are 6
 abbrev pub is_line : List ℕ → ℕ → ℕ → Bool

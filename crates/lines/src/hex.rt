@@ -3,14 +3,12 @@ ghost use Rattle.std.specs.Prelude.{◌≡◌, ◌+◌, ◌<◌, ◌≤◌, leng
 ghost use Rattle.lines.specs.Hex.{digit_byte, hex_text, printed, placed};
 
 // A digit's byte.
+#[tactic(auto, unfolding(crate::specs::Hex::digit_byte))]
 pub fn digit_byte(d: u8) -> u8
     requires { d < 16 }
     ensures { result ≡ digit_byte d }
 {
-    if d < 10 {
-        return b'0' + d;
-    }
-    b'A' + (d - 10)
+    if d < 10 { b'0' + d } else { b'A' + (d - 10) }
 }
 
 // Puts n digits of a value into a buffer, the last digit first.
@@ -18,10 +16,8 @@ pub fn put_digits(out: &mut [u8], at: usize, n: usize, value: u32)
     requires { at + n ≤ length out.old }
     ensures { out.new ≡ placed out.old at (hex_text n value) }
 {
-    let mut k = n;
     let mut v = value;
-    while 0 < k {
-        k -= 1;
+    for k in (0..n).rev() {
         out[at + k] = digit_byte((v % 16) as u8);
         v /= 16;
     }

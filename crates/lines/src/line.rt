@@ -1,25 +1,11 @@
 // A script line, without its LF, to the frame that it says.
-ghost use Rattle.std.specs.Prelude.{◌≡◌, ℕ, ◌+◌, ◌<◌, ◌≤◌, true, ◌&&◌, length};
-ghost use Rattle.lines.specs.Line.{is_hex, worth, digit_of, hex_part, number_at, number_of, frame_of};
+ghost use Rattle.std.specs.Prelude.{◌≡◌, ◌+◌, ◌<◌, ◌≤◌, ◌^◌, true, length};
+ghost use Rattle.lines.specs.Line.{is_hex, worth, hex_part, number_at, number_of, Begins, frame_of};
 
-use super::reader::numbers;
+use super::reader::LineReader;
 
-// A byte as an upper-case hexadecimal digit.
-#[derive(Clone, Copy)]
-pub enum Digit {
-    Value(u8),
-    NotHex,
-}
-
-// The number that some digits spell.
-#[derive(Clone, Copy)]
-pub enum Number {
-    Value(u32),
-    NotHex,
-}
-
-// One frame a line. A row's bytes stay in the line.
-#[derive(Clone, Copy)]
+// One frame a line. A row's bytes stay in the line. A line that says none is a frame too, as in the definitions, so this is no Option.
+#[derive(Clone, Copy, PartialEq, Eq, Debug)]
 pub enum Frame {
     Reset,
     Read(u16),
@@ -30,68 +16,11 @@ pub enum Frame {
 }
 
 // Whether a byte is a digit. No branch tells digits from letters: which comes next is not to be guessed.
-#[tactic(auto, using(crate::proofs::Digits::outside))]
 fn is_digit(b: u8) -> bool
     ensures { result ≡ is_hex b }
 {
-    let past = std::num::wrapping_sub_u8(b, b'0');
-    if 22 < past {
-        return false; // not in 30h to 46h
-    }
-    let gap = std::num::wrapping_sub_u8(b, 58);
-    7 <= gap // not in 3Ah to 40h
-}
-
-// A byte as a digit.
-pub(crate) fn digit_of(b: u8) -> Digit
-    ensures { result ≡ digit_of b }
-{
-    if is_digit(b) {
-        return Digit::Value(b % 16 + b / 64 * 9);
-    }
-    Digit::NotHex
-}
-
-// The number that n digits of a line, from `at` on, spell, one digit after the other.
-fn digits_at(line: &[u8], at: usize, n: usize) -> Number
-    requires { (at + n ≤ length line.now) × (n ≤ 8) }
-    ensures { result ≡ number_of line.now at n }
-{
-    let mut v: u32 = 0;
-    let mut i = 0;
-    while i < n {
-        let b = line[at + i];
-        let Digit::Value(d) = digit_of(b) else {
-            return Number::NotHex;
-        };
-        v = v * 16 + d as u32;
-        i += 1;
-    }
-    Number::Value(v)
-}
-
-// Whether two things hold.
-fn both(a: bool, b: bool) -> bool
-    ensures { result ≡ (a && b) }
-{
-    if a {
-        return b;
-    }
-    false
-}
-
-// Whether n bytes of a line, from `at` on, are all digits. Nothing is decided at a byte, so that many are looked at together.
-fn all_hex(line: &[u8], at: usize, n: usize) -> bool
-    requires { at + n ≤ length line.now }
-    ensures { result ≡ hex_part line.now at n }
-{
-    let mut all = true;
-    let mut i = 0;
-    while i < n {
-        all = both(all, is_digit(line[at + i]));
-        i += 1;
-    }
-    all
+    // in 30h to 46h, and not in 3Ah to 40h
+    (b.wrapping_sub(b'0') <= 22) & (7 <= b.wrapping_sub(58))
 }
 
 // What a digit is worth.
@@ -99,60 +28,42 @@ fn worth_of(b: u8) -> u32
     requires { is_hex b ≡ true }
     ensures { (result ≡ worth b) × (result < 16) }
 {
-    (b % 16 + b / 64 * 9) as u32
+    u32::from(b % 16 + b / 64 * 9)
 }
 
-// The number that four digits of a line, from `at` on, spell.
-fn four_worth(line: &[u8], at: usize) -> u32
-    requires { (at + 4 ≤ length line.now) × (hex_part line.now at 4 ≡ true) }
-    ensures { (result ≡ number_at line.now at 4) × (result < 65536) }
+// Whether all bytes are digits. Nothing is decided at a byte, so that many are looked at together.
+fn all_hex<const N: usize>(bytes: &[u8; N]) -> bool
+    ensures { result ≡ hex_part bytes.now 0 N }
 {
-    worth_of(line[at]) * 4096
-        + worth_of(line[at + 1]) * 256
-        + worth_of(line[at + 2]) * 16
-        + worth_of(line[at + 3])
+    bytes.iter().fold(true, |all, b| all & is_digit(*b))
 }
 
-// The number that four bytes of a line, from `at` on, spell if they are digits.
-fn four_at(line: &[u8], at: usize) -> Number
-    requires { at + 4 ≤ length line.now }
-    ensures { result ≡ number_of line.now at 4 }
+// The number that N digits spell.
+fn spelt<const N: usize>(digits: &[u8; N]) -> u32
+    requires { (N ≤ 8) × (hex_part digits.now 0 N ≡ true) }
+    ensures { result ≡ number_at digits.now 0 N }
 {
-    if all_hex(line, at, 4) {
-        return Number::Value(four_worth(line, at));
+    let mut v = 0;
+    for (k, b) in digits.iter().enumerate() {
+        v += worth_of(*b) << (4 * (N - 1 - k));
     }
-    Number::NotHex
+    v
 }
 
-// The number that eight bytes of a line, from `at` on, spell if they are digits.
-fn eight_at(line: &[u8], at: usize) -> Number
-    requires { at + 8 ≤ length line.now }
-    ensures { result ≡ number_of line.now at 8 }
+// The number that N bytes spell if they are digits: at most eight. All are looked at before any is added.
+pub(crate) fn number_of<const N: usize>(bytes: &[u8; N]) -> Option<u32>
+    requires { N ≤ 8 }
+    ensures { result ≡ number_of bytes.now 0 N }
 {
-    if all_hex(line, at, 8) {
-        return Number::Value(four_worth(line, at) * 65536 + four_worth(line, at + 4));
+    if all_hex(bytes) {
+        return Some(spelt(bytes));
     }
-    Number::NotHex
-}
-
-// The number that n digits of a line, from `at` on, spell: at most eight. The line reader calls it at its place. Four and eight, as in addresses and
-// ticks, are read together.
-pub(crate) fn number_at(line: &[u8], at: usize, n: usize) -> Number
-    requires { (at + n ≤ length line.now) × (n ≤ 8) }
-    ensures { result ≡ number_of line.now at n }
-{
-    if n == 4 {
-        return four_at(line, at);
-    }
-    if n == 8 {
-        return eight_at(line, at);
-    }
-    digits_at(line, at, n)
+    None
 }
 
 // `00` reset.
 fn reset_line(line: &[u8]) -> Frame
-    requires { (hex_part line.now 0 2 ≡ true) × (number_at line.now 0 2 ≡ 0) }
+    requires { Begins line.now 0 }
     ensures { result ≡ frame_of line.now }
 {
     if line.len() != 2 {
@@ -163,91 +74,81 @@ fn reset_line(line: &[u8]) -> Frame
 
 // `01` four-digit address.
 fn read_line(line: &[u8]) -> Frame
-    requires { (hex_part line.now 0 2 ≡ true) × (number_at line.now 0 2 ≡ 1) }
+    requires { Begins line.now 1 }
     ensures { result ≡ frame_of line.now }
 {
     if line.len() != 6 {
         return Frame::Malformed;
     }
-    let read = numbers(line, 4, 0);
-    let address = read.first;
-    let Number::Value(a) = address else {
+    let Some(address) = LineReader::after_kind(line).number::<4>() else {
         return Frame::Malformed;
     };
-    Frame::Read(a as u16)
+    Frame::Read(address as u16)
 }
 
 // `02` four-digit address, byte.
 fn write_line(line: &[u8]) -> Frame
-    requires { (hex_part line.now 0 2 ≡ true) × (number_at line.now 0 2 ≡ 2) }
+    requires { Begins line.now 2 }
     ensures { result ≡ frame_of line.now }
 {
     if line.len() != 8 {
         return Frame::Malformed;
     }
-    let read = numbers(line, 4, 2);
-    let address = read.first;
-    let Number::Value(a) = address else {
+    let mut reader = LineReader::after_kind(line);
+    let Some(address) = reader.number::<4>() else {
         return Frame::Malformed;
     };
-    let byte = read.second;
-    let Number::Value(b) = byte else {
+    let Some(byte) = reader.number::<2>() else {
         return Frame::Malformed;
     };
-    Frame::Write(a as u16, b as u8)
+    Frame::Write(address as u16, byte as u8)
 }
 
 // `03` eight-digit tick.
 fn tick_line(line: &[u8]) -> Frame
-    requires { (hex_part line.now 0 2 ≡ true) × (number_at line.now 0 2 ≡ 3) }
+    requires { Begins line.now 3 }
     ensures { result ≡ frame_of line.now }
 {
     if line.len() != 10 {
         return Frame::Malformed;
     }
-    let read = numbers(line, 8, 0);
-    let count = read.first;
-    let Number::Value(n) = count else {
+    let Some(cycles) = LineReader::after_kind(line).number::<8>() else {
         return Frame::Malformed;
     };
-    Frame::Tick(n)
+    Frame::Tick(cycles)
 }
 
 // `04` row (00 to 7F) and 128 bytes of the image.
 fn row_line(line: &[u8]) -> Frame
-    requires { (hex_part line.now 0 2 ≡ true) × (number_at line.now 0 2 ≡ 4) }
+    requires { Begins line.now 4 }
     ensures { result ≡ frame_of line.now }
 {
     if line.len() != 260 {
         return Frame::Malformed;
     }
-    let read = numbers(line, 2, 0);
-    let row = read.first;
-    let Number::Value(y) = row else {
+    let mut reader = LineReader::after_kind(line);
+    let Some(y) = reader.number::<2>() else {
         return Frame::Malformed;
     };
     if 0x7F < y {
         return Frame::Malformed;
     }
-    if !all_hex(line, read.at, 256) {
+    if !all_hex(reader.take::<256>()) {
         return Frame::Malformed;
     }
     Frame::Row(y as u8)
 }
 
 // The frame that a line says.
+#[tactic(auto, using(crate::proofs::Begins::by_kind))]
 pub fn frame_of(line: &[u8]) -> Frame
     ensures { result ≡ frame_of line.now }
 {
-    if line.len() < 2 {
-        return Frame::Malformed;
-    }
     // no kind but 00 to 04 is one
-    if line[0] != b'0' {
+    let [b'0', kind, ..] = line else {
         return Frame::Malformed;
-    }
-    let kind = line[1];
-    match kind {
+    };
+    match *kind {
         b'0' => reset_line(line),
         b'1' => read_line(line),
         b'2' => write_line(line),

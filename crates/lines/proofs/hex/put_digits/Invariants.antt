@@ -1,10 +1,7 @@
 -- The invariants of `lines::hex::put_digits`. Assumes nothing.
-use Rattle.std.proofs.Common.{◌≡◌, ◌-◌, ◌≤◌, length}
+use Rattle.std.proofs.Common.{◌≡◌}
 use Rattle.lines.specs.Hex.{placed, hex_text}
 use Rattle.lines.proofs.hex.put_digits.Given as goal
 
 abbrev pub invariant-loop-k : goal.invariant-loop-k
-invariant-loop-k l = (l.k ≤ l.n) × (length l.out ≡ length l.initial.out) × (placed l.out l.at (hex_text l.k l.v) ≡ placed l.initial.out l.at (hex_text l.n l.value))
-
-abbrev pub decreases-loop-k : goal.decreases-loop-k
-decreases-loop-k l = l.k
+invariant-loop-k l = placed l.out l.at (hex_text l.k l.v) ≡ placed l.initial.out l.at (hex_text l.n l.value)

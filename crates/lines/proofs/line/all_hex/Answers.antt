@@ -1,34 +1,13 @@
--- `lines::line::all_hex` meets its contract: the invariant is whether the bytes read are digits. Assumes nothing.
-use Rattle.std.proofs.Common.{◌≡◌, ◌-◌, Bool, ◌&&◌, sym, refl, ap, ◌∙◌, ap₂, arith}
+-- `lines::line::all_hex` meets its contract: what is folded is whether the bytes so far are digits. Assumes nothing.
+use Rattle.std.proofs.Common.{◌≡◌, length, subst, ap, ◌∙◌, rules}
+use Rattle.std.proofs.lemmas.Fn.{fold_over, slice_gives, fronts}
 use Rattle.lines.specs.Line.{hex_part}
-use Rattle.lines.proofs.Digits.{hex_more}
+use Rattle.lines.proofs.Digits.{hex_behind, hex_none}
 use Rattle.lines.proofs.line.all_hex.Goals as goal
 
-pub loop-i-init : goal.loop-i-init
-unfolding hex_part
-loop-i-init c = (omega arith, refl)
-
-pub loop-i-preserved : goal.loop-i-preserved
-loop-i-preserved c =
-    let a = c.args in
-    let l = c.loop-i in
-    (omega arith, c.both-all.ensures ∙ ap₂ (λ (s t : Bool). s && t) l.invariant.1 c.is_digit.ensures ∙ sym (hex_more a.line.now a.at l.i))
-
 pub returns : goal.returns
-returns c =
-    let a = c.args in
-    let l = c.loop-i in
-    let e : l.i ≡ a.n = omega arith in
-    l.invariant.1 ∙ ap (hex_part a.line.now a.at) e
-
-pub overflow_add-at : goal.overflow_add-at
-overflow_add-at c = omega arith
-
-pub bounds-line-at : goal.bounds-line-at
-bounds-line-at c = omega arith
-
-pub overflow_add-i : goal.overflow_add-i
-overflow_add-i c = omega arith
-
-pub loop-i-smaller : goal.loop-i-smaller
-loop-i-smaller c = omega arith
+returns g c =
+    let all : c.fold.result ≡ hex_part c.args.bytes.now 0 (length c.args.bytes.now) = subst (λ l. c.fold.result ≡ hex_part l 0 (length l)) c.iter.ensures.rest
+    (fold_over fronts (λ y. y.now) _ (λ ys all. all ≡ hex_part ys 0 (length ys)) _ (λ ys a x b f' j k. let more = hex_behind ys x.now in search rules)
+    _ _ _ _ (slice_gives c.iter.result) hex_none c.fold.ensures.ran) in
+    all ∙ ap (hex_part c.args.bytes.now 0) c.told-bytes

@@ -1,26 +1,23 @@
 -- `lines::line::tick_line` meets its contract: the kind is known, and length and digits decide. Assumes nothing.
 use Rattle.std.proofs.Common.{◌≡◌, length, sym, ◌∙◌, arith, eq-eqb, ne_eqb}
-use Rattle.lines.specs.Line.{spelled}
-use Rattle.lines.proofs.Digits.{none_of, some_of, hex_joined, hex_broken}
-use Rattle.lines.proofs.Frames.{wrong, bad, good}
+use Rattle.lines.specs.Line.{number_of, spelled}
+use Rattle.lines.proofs.Digits.{some_of}
+use Rattle.lines.proofs.Frames.{wrong, good, unread, read_on}
 use Rattle.lines.proofs.line.tick_line.Goals as goal
+
+-- the number that was read
+read : (c : goal.In-Some) → c.number.result ≡ number_of c.args.line.now 2 8
+read c = simp (c.after_kind.ensures.0, c.after_kind.ensures.1) at c.number.ensures.value
 
 pub returns-then-line-ne10 : goal.returns-then-line-ne10
 unfolding spelled
 returns-then-line-ne10 c = sym (wrong _ (simp (c.requires.1, ne_eqb _ _ c.if-line-ne10.true)))
 
 pub returns-in_default : goal.returns-in_default
-returns-in_default c =
-    let s = c in
-    let l = s.args.line.now in
-    let e : length l ≡ 10 = omega arith in
-    sym (bad _ (rw e (hex_broken l 0 2 8 s.requires.0 (none_of _ _ _ _ c.numbers-read.ensures.0 c.in_default.is))))
+returns-in_default c = unread _ 2 8 _ (simp (c.after_kind.ensures.0, c.after_kind.ensures.1) at c.number.ensures.value) (omega arith) c.in_default.is
 
 pub returns : goal.returns
 unfolding spelled
 returns c =
-    let s = c in
-    let l = s.args.line.now in
-    let e : length l ≡ 10 = omega arith in
-    let n = some_of _ _ _ _ _ c.numbers-read.ensures.0 c.in-Value.is in
-    sym (good _ (rw e (hex_joined l 0 2 8 s.requires.0 n.hex)) ∙ simp (s.requires.1, eq-eqb _ _ e, n.is))
+    let e : length c.args.line.now ≡ 10 = omega arith in
+    sym (good _ (rw e (read_on _ 2 8 _ (read c) _ c.requires.0 c.in-Some.is)) ∙ simp (c.requires.1, eq-eqb _ _ e, (some_of _ _ _ _ _ (read c) c.in-Some.is).is))
