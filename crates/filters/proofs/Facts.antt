@@ -1,33 +1,30 @@
 -- The ranges that the filters keep. Assumes nothing.
-use mathlib.Core.Bool.{true, false}
+use mathlib.Core.Bool.{true, false, cond}
 use mathlib.Core.List.{List}
-use mathlib.Core.Path.{◌≡◌}
+use mathlib.Core.Path.{◌≡◌, refl}
 use Prim.Native.Nat.{ℕ, ◌<◌}
+use native.Mathlib.Nat.{lt_of_lt_of_le}
 use native.Mathlib.Omega.{arith}
 use borrow.Author.Tests.{ltb-false}
 use lib.IntN.{ℤ, pos, negsuc}
 use lib.Signed.{mag, lt_z}
-use mir.Syntax.{Width}
-use mir.Val.{SFits, to_z, of_z}
-use mir.Facts.{to_z-of_z}
-use lib.Dec.{eqb, ltb, lit<}
-use Rattle.laws.proofs.Table.{at}
+use mir.Syntax.{w32}
+use mir.Val.{to_z, of_z}
+use lib.Dec.{lit≤, eqb, ltb, lit<}
+use Rattle.std.specs.Int.{int_max, int_min}
+use Rattle.laws.specs.Pick.{pick}
+use Rattle.laws.proofs.Signed.{got}
 use Rattle.laws.proofs.Pick.{pick_ind}
-use Rattle.filters.specs.Edge.{between, held, mode2, mode3, mode_c, mode_d, mode_e, mode_f, edge_of}
+use Rattle.filters.specs.Edge.{nine, held, mode2, mode3, mode_c, mode_d, mode_e, mode_f, edge_of}
 use Rattle.filters.specs.Aside.{Small}
 
 -- ---- what is held
 
--- low, high and v itself are held to low..high by the tests of the number read back from v's bits
-module _ (w : Width) (low high : ℤ) {v : ℤ} (f : SFits w v) where
-  pub held_below : lt_z (to_z w (of_z w v)) low ≡ true → low ≡ between low high v
-  held_below t = simp (rw (to_z-of_z f) at t)
-
-  pub held_above : lt_z (to_z w (of_z w v)) low ≡ false → lt_z high (to_z w (of_z w v)) ≡ true → high ≡ between low high v
-  held_above t u = simp (rw (to_z-of_z f) at t, rw (to_z-of_z f) at u)
-
-  pub held_kept : lt_z (to_z w (of_z w v)) low ≡ false → lt_z high (to_z w (of_z w v)) ≡ false → to_z w (of_z w v) ≡ between low high v
-  held_kept t u = simp (to_z-of_z f, rw (to_z-of_z f) at t, rw (to_z-of_z f) at u)
+-- so std's clamp holds
+pub clamped : (v : ℤ) → int_max (negsuc 127) (int_min v (pos 127)) ≡ held v
+unfolding held
+clamped (pos n) = elim (ltb 127 n) as (λ t. cond (lt_z (cond t (pos 127) (pos n)) (negsuc 127)) (negsuc 127) (cond t (pos 127) (pos n)) ≡ pick t (pos 127) (pos n)) [ true ↦ refl | false ↦ refl ]
+clamped (negsuc n) = elim (ltb 127 n) as (λ t. cond t (negsuc 127) (negsuc n) ≡ pick t (negsuc 127) (negsuc n)) [ true ↦ refl | false ↦ refl ]
 
 pub held_small : (v : ℤ) → mag (held v) < 128
 unfolding held
@@ -35,6 +32,10 @@ held_small (pos n) = pick_ind (λ z. mag z < 128) (ltb 127 n) (λ e. lit< tt) (�
 held_small (negsuc n) = pick_ind (λ z. mag z < 128) (ltb 127 n) (λ e. lit< tt) (λ e. omega (arith, ltb-false 127 n e))
 
 -- ---- step 4
+
+-- each of nine small values is read back from its bits
+pub back : (n : List (List ℤ)) → Small n → (i j : ℕ) → to_z w32 (of_z w32 (nine n i j)) ≡ nine n i j
+back n s i j = got w32 (lt_of_lt_of_le (s i j) (lit≤ tt)) refl
 
 -- the value of any mode lies in −128..127
 module _ (n : List (List ℤ)) (s : Small n) (mode q : ℕ) where

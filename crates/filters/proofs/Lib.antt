@@ -1,5 +1,5 @@
 -- The modules of `proofs/` that belong to no one function.
 pub mod Facts
 pub mod Weights
-pub mod Sums
 pub mod Quarters
+pub mod Modes

@@ -1,47 +1,20 @@
--- A quarter by shifts: the top bits of a number, and the shift that rounds down of a number moved up by them. Assumes nothing.
+-- A quarter by shifts: how large the top bits of a number are, and the shift that rounds down of a number moved up by them. Assumes nothing.
 use mathlib.Core.Path.{◌≡◌, refl, sym, ap, subst, ◌∙◌}
-use Prim.Native.Nat.{ℕ, zero, suc, ◌+◌, ◌-◌, ◌/◌, ◌%◌, ◌<◌, ◌≤◌}
+use Prim.Native.Nat.{ℕ, zero, suc, ◌+◌, ◌-◌, ◌/◌, ◌<◌, ◌≤◌}
 use native.Mathlib.Omega.{arith}
-use native.Mathlib.Nat.{add-zero, le_trans, lt_of_lt_of_le}
+use native.Mathlib.Nat.{add-zero, le_trans}
 use borrow.Author.Tests.{lt-ltb}
-use lib.Bits.{bit_and, and_mask}
-use lib.Dec.{T, leb, leb→le, lit≤}
+use lib.Dec.{T, leb, leb→le}
 use lib.IntN.{ℤ, pos, negsuc, neg_ℤ, nat_abs, sub_ℕ, ◌+ℤ◌}
 use lib.Signed.{mag, quot_z, shr_z}
-use mir.Syntax.{w16, w32}
-use mir.Val.{SFits, to_z, of_z}
-use mir.Facts.{to_z-of_z}
+use mir.Syntax.{w16}
+use mir.Val.{to_z}
 use Rattle.laws.specs.Pick.{pick}
 use Rattle.laws.proofs.Signed.{E, bits, bound, ok, read, within, sub_ind}
 use Rattle.filters.specs.Edge.{held}
 use Rattle.filters.specs.Aside.{top_bits}
 
--- ---- the bits
-
--- a number of 16 bits has room in 32
-pub wider : {v : ℤ} → SFits w16 v → SFits w32 (to_z w16 (of_z w16 v))
-wider f = rw (to_z-of_z f) (record { sfits = lt_of_lt_of_le f.sfits (lit≤ tt) })
-
--- the mask leaves the 16 bits of a number's 32
-low : (v : ℤ) → mag v < 32768 → bit_and (of_z w32 v) 65535 ≡ of_z w16 v
-low (pos n) h = let e : n % 65536 ≡ n = omega arith in and_mask n 16 ∙ e
-low (negsuc n) h = let e : (4294967296 - suc n) % 65536 ≡ 65536 - suc n = omega arith in and_mask (4294967296 - suc n) 16 ∙ e
-
--- they are a number below 65,536, and its two top bits are v's
-few : (v : ℤ) → mag v < 32768 → of_z w16 v < 65536
-few (pos n) h = omega arith
-few (negsuc n) h = omega arith
-
-top : (v : ℤ) → mag v < 32768 → of_z w16 v / 16384 ≡ top_bits v
-top (pos n) h = refl
-top (negsuc n) h = omega arith
-
--- what holds of that number and of its two top bits holds of what the mask leaves
-pub masked : (P : ℤ → ℕ → Type 0) {v : ℤ} → SFits w16 v → ((n : ℕ) → n < 65536 → P (pos n) (n / 16384)) → P (to_z w32 (bit_and (of_z w32 (to_z w16 (of_z w16 v))) 65535)) (top_bits v)
-masked P {v} f p =
-    let h = f.sfits in
-    let e : to_z w32 (bit_and (of_z w32 (to_z w16 (of_z w16 v))) 65535) ≡ pos (of_z w16 v) = ap (λ z. to_z w32 (bit_and (of_z w32 z) 65535)) (to_z-of_z f) ∙ ap (to_z w32) (low v h) ∙ to_z-of_z {w = w32} (record { sfits = omega (arith, few v h) }) in
-    subst (λ z. P z (top_bits v)) (sym e) (subst (P (pos (of_z w16 v))) (top v h) (p (of_z w16 v) (few v h)))
+-- ---- the top bits
 
 pub top_few : (v : ℤ) → mag v < 32768 → top_bits v ≤ 3
 top_few (pos n) h = omega arith

@@ -1,19 +1,14 @@
--- Laws of ℤ by which a pixel is weighed once: a product of a sum, and a number less a sum. Assumes nothing.
+-- Laws of ℤ by which a pixel is weighed once: a product of a sum. Assumes nothing.
 use mathlib.Core.Path.{◌≡◌, sym, ap, ◌∙◌}
 use Prim.Native.Nat.{ℕ, zero, suc, ◌+◌, ◌*◌}
+use native.Mathlib.Omega.{arith}
+use Rattle.std.proofs.lemmas.Int.{ints}
 use native.Mathlib.Nat.{add-zero, add-suc, mul-zero, mul-suc}
-use lib.IntN.{ℤ, pos, neg_ℤ, ◌+ℤ◌, ◌-ℤ◌, ◌*ℤ◌, +ℤ_idr, +ℤ_assoc, +ℤ_comm, neg_ℤ-+ℤ, zero-*ℤ, suc_ℤ-*ℤ}
-
--- a − (b + c) = a − b − c
-pub less : (a b c : ℤ) → a -ℤ (b +ℤ c) ≡ a -ℤ b -ℤ c
-less a b c = ap (λ x. a +ℤ x) (neg_ℤ-+ℤ b c) ∙ sym (+ℤ_assoc a (neg_ℤ b) (neg_ℤ c))
+use lib.IntN.{ℤ, pos, neg_ℤ, ◌+ℤ◌, ◌-ℤ◌, ◌*ℤ◌, +ℤ_idr, +ℤ_assoc, zero-*ℤ, suc_ℤ-*ℤ}
 
 -- (a + b) − (c + d) = (a − c) + (b − d)
 pairs : (a b c d : ℤ) → a +ℤ b -ℤ (c +ℤ d) ≡ (a -ℤ c) +ℤ (b -ℤ d)
-pairs a b c d =
-    less (a +ℤ b) c d ∙
-    ap (λ x. x -ℤ d) (+ℤ_assoc a b (neg_ℤ c) ∙ ap (λ x. a +ℤ x) (+ℤ_comm b (neg_ℤ c)) ∙ sym (+ℤ_assoc a (neg_ℤ c) b)) ∙
-    +ℤ_assoc (a -ℤ c) b (neg_ℤ d)
+pairs a b c d = omega (arith, ints)
 
 module _ (p : ℤ) where
   -- (m + n)p = mp + np
@@ -28,7 +23,7 @@ module _ (p : ℤ) where
 
   module _ (k : ℕ) (b : ℤ) where
     -- kqp − qb = q(kp − b)
-    pub weighed : (q : ℕ) → pos (k * q) *ℤ p -ℤ pos q *ℤ b ≡ pos q *ℤ (pos k *ℤ p -ℤ b)
+    weighed : (q : ℕ) → pos (k * q) *ℤ p -ℤ pos q *ℤ b ≡ pos q *ℤ (pos k *ℤ p -ℤ b)
     weighed zero = simp (mul-zero, zero-*ℤ)
     weighed (suc q) =
         ap (λ x. pos x *ℤ p -ℤ pos (suc q) *ℤ b) (mul-suc k q) ∙

@@ -1,5 +1,5 @@
 -- From light to shade, step 4: the edge filters. Assumes nothing.
-use Rattle.std.specs.Prelude.{List, [], ℕ, ◌+◌, ◌-◌, ℤ, pos, negsuc, ◌+ℤ◌, ◌-ℤ◌, ◌*ℤ◌, eqb, get_or}
+use Rattle.std.specs.Prelude.{List, [], ℕ, ℤ, pos, negsuc, ◌+ℤ◌, ◌-ℤ◌, ◌*ℤ◌, eqb, get_or}
 use Rattle.std.specs.Int.Signed.{lt_z, quot_z}
 use Rattle.laws.specs.Pick.{pick}
 

@@ -1,9 +1,9 @@
 -- The ranges that light and settings keep. Assumes nothing.
-use mathlib.Core.Path.{◌≡◌, refl, sym, ap, ◌∙◌}
+use mathlib.Core.Path.{◌≡◌, sym, ap, ◌∙◌}
 use mathlib.Core.Bool.{Bool, ◌&&◌}
 use mathlib.Core.List.{List, [], ◌∷◌}
-use Prim.Native.Nat.{ℕ, zero, suc, ◌+◌, ◌-◌, ◌*◌, ◌/◌, ◌%◌, ◌≤◌, ◌<◌}
-use native.Mathlib.Nat.{mul-le-mul, mul-add, mul_assoc}
+use Prim.Native.Nat.{ℕ, zero, suc, ◌+◌, ◌*◌, ◌/◌, ◌%◌, ◌≤◌, ◌<◌}
+use native.Mathlib.Nat.{mul-add, mul_assoc}
 use native.Mathlib.Omega.{arith}
 use lib.IntN.{nat_abs}
 use lib.ListN.{get_or}
@@ -49,13 +49,6 @@ exposure_split v e =
     let parts : v * e ≡ v * (e / 256) * 256 + v * (e % 256) = ap (λ (n : ℕ). v * n) whole ∙ mul-add v (e / 256 * 256) (e % 256) ∙ ap (λ (n : ℕ). n + v * (e % 256)) (sym (mul_assoc v (e / 256) 256)) in
     omega (arith, parts)
 
--- a byte times a byte
-pub bytes_product : (a b : ℕ) → a < 256 → b < 256 → a * b ≤ 65025
-bytes_product a b h k =
-    let m : a ≤ 255 = omega arith in
-    let n : b ≤ 255 = omega arith in
-    mul-le-mul m n
-
 -- ---- what the registers ask
 
 pub quarters_small : (k : ℕ) → get_or alphas k 0 ≤ 20
@@ -68,23 +61,3 @@ quarters_small (suc (suc (suc (suc (suc zero))))) = lit≤ tt
 quarters_small (suc (suc (suc (suc (suc (suc zero)))))) = lit≤ tt
 quarters_small (suc (suc (suc (suc (suc (suc (suc zero))))))) = lit≤ tt
 quarters_small (suc (suc (suc (suc (suc (suc (suc (suc k)))))))) = lit≤ tt
-
--- α in quarters, worked out: below level 4, and from there on
-pub alpha_low : (n : ℕ) → n < 4 → n + 2 ≡ get_or alphas n 0
-alpha_low zero h = refl
-alpha_low (suc zero) h = refl
-alpha_low (suc (suc zero)) h = refl
-alpha_low (suc (suc (suc zero))) h = refl
-alpha_low (suc (suc (suc (suc n)))) h = absurd (omega arith)
-
-alpha_from : (k : ℕ) → k < 4 → 4 * (4 + k) - 8 ≡ get_or alphas (4 + k) 0
-alpha_from zero h = refl
-alpha_from (suc zero) h = refl
-alpha_from (suc (suc zero)) h = refl
-alpha_from (suc (suc (suc zero))) h = refl
-alpha_from (suc (suc (suc (suc k)))) h = absurd (omega arith)
-
-pub alpha_high : (n : ℕ) → 4 ≤ n → n < 8 → 4 * n - 8 ≡ get_or alphas n 0
-alpha_high n l h =
-    let e : 4 + (n - 4) ≡ n = omega arith in
-    rw e at (alpha_from (n - 4) (omega arith))

@@ -1,5 +1,5 @@
 -- From light to shade, steps 1 to 3: the light of a pixel, as a number 0 to 255. Quotients are cut toward zero. Assumes nothing.
-use Rattle.std.specs.Prelude.{Bool, ◌≡◌, List, ℕ, ◌+◌, ◌-◌, ◌*◌, ◌/◌, ◌≤◌, ◌<◌, min, ℤ, pos, nat_abs, ◌+ℤ◌, ◌-ℤ◌, ◌*ℤ◌, get_or}
+use Rattle.std.specs.Prelude.{Bool, List, ℕ, ◌+◌, ◌-◌, ◌*◌, ◌/◌, ◌≤◌, ◌<◌, min, ℤ, pos, nat_abs, ◌+ℤ◌, ◌-ℤ◌, ◌*ℤ◌, get_or}
 use Rattle.std.specs.Int.Signed.{quot_z}
 use Rattle.laws.specs.Pick.{pick}
 use Rattle.laws.specs.Lists.{listed}
@@ -33,9 +33,8 @@ light_frame image set = listed (λ i. light_of set (get_or image i 0)) 16384
 abbrev pub byte_at : List ℕ → ℕ → ℕ → ℕ
 byte_at bytes x row = get_or bytes (row * 128 + x) 0
 
--- n bytes are a frame, the column is within it, and the row is one of first to last
-pub record Inside (n x row first last : ℕ) : Type 0 where
-  pub whole : n ≡ 16384
+-- the column is within a frame, and the row is one of first to last
+pub record Within (x row first last : ℕ) : Type 0 where
   pub column : x < 128
   pub from : first ≤ row
   pub to : row ≤ last

@@ -5,25 +5,26 @@ pub mod nine;
 pub mod row;
 pub mod shade;
 
-ghost use Rattle.std.specs.Prelude.{◌≡◌, length};
+ghost use Rattle.std.specs.Prelude.{◌≡◌};
 ghost use Rattle.lighting.specs.Aside.{Asked};
-ghost use Rattle.lighting.specs.Light.{Inside, byte_at};
+ghost use Rattle.lighting.specs.Light.{Within, byte_at};
 ghost use Rattle.sensor.specs.Aside.{pixel_at};
 
 use lighting::Setting;
 use shade::{shade, value};
 
 // A pixel of the sensor: its value, 0 to 255, and its shade.
-#[derive(Clone, Copy)]
+#[derive(Clone, Copy, PartialEq, Eq, Debug)]
 pub struct Pixel {
     pub value: u8,
     pub shade: u8,
 }
 
 // The pixel at a column and a row. `set` is what `regs` ask.
-pub fn pixel_at(store: &[u8], set: Setting, regs: &[u8], x: usize, row: usize) -> Pixel
-    requires inside { Inside (length store.now) x row 8 119 }
-    requires asked { Asked set regs.now × (length regs.now ≡ 54) }
+#[tactic(auto, unfolding(crate::specs::Shade::shade_at))]
+pub fn pixel_at(store: &[u8; 16384], set: Setting, regs: &[u8; 54], x: usize, row: usize) -> Pixel
+    requires inside { Within x row 8 119 }
+    requires asked { Asked set regs.now }
     ensures { result ≡ pixel_at (byte_at store.now) regs.now x row }
 {
     let v = value(store, set, x, row);

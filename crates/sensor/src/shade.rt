@@ -1,16 +1,17 @@
 // Step 6: the value, and its shade by the matrix.
-ghost use Rattle.std.specs.Prelude.{◌≡◌, length};
+ghost use Rattle.std.specs.Prelude.{◌≡◌};
 ghost use Rattle.laws.specs.Pick.{pick};
 ghost use Rattle.lighting.specs.Aside.{Sane};
-ghost use Rattle.lighting.specs.Light.{Inside, byte_at};
+ghost use Rattle.lighting.specs.Light.{Within, byte_at};
 ghost use Rattle.sensor.specs.Shade.{value_at, shade_by, shade_of};
 
 use super::row::step_5;
 use lighting::Setting;
 
 // The pixel's value, 0 to 255.
-pub(crate) fn value(store: &[u8], set: Setting, x: usize, row: usize) -> u8
-    requires inside { Inside (length store.now) x row 8 119 }
+#[tactic(auto, using(crate::proofs::Facts::step5_small), unfolding(crate::specs::Shade::value_at))]
+pub(crate) fn value(store: &[u8; 16384], set: Setting, x: usize, row: usize) -> u8
+    requires inside { Within x row 8 119 }
     requires sane { Sane set }
     ensures { result ≡ value_at (byte_at store.now) set x row }
 {
@@ -21,10 +22,7 @@ pub(crate) fn value(store: &[u8], set: Setting, x: usize, row: usize) -> u8
 pub fn either(t: bool, a: u8, b: u8) -> u8
     ensures { result ≡ pick t a b }
 {
-    if t {
-        return a;
-    }
-    b
+    if t { a } else { b }
 }
 
 // The shade of a value by three thresholds: its high bit and its low bit, each by tests of its own, since a choice among four shades becomes branches.
@@ -37,13 +35,10 @@ fn shade_by(v: u8, low: u8, mid: u8, high: u8) -> u8
 }
 
 // Step 6: the shade of a value, by the matrix's element.
-pub fn shade(regs: &[u8], x: usize, row: usize, v: u8) -> u8
-    requires { length regs.now ≡ 54 }
+#[tactic(auto, unfolding(crate::specs::Shade::shade_of))]
+pub fn shade(regs: &[u8; 54], x: usize, row: usize, v: u8) -> u8
     ensures { result ≡ shade_of regs.now x row v }
 {
     let at = 6 + 3 * (4 * (row % 4) + x % 4);
-    let low = regs[at];
-    let mid = regs[at + 1];
-    let high = regs[at + 2];
-    shade_by(v, low, mid, high)
+    shade_by(v, regs[at], regs[at + 1], regs[at + 2])
 }

@@ -1,19 +1,10 @@
--- `filters::hold` meets its contract: each test is the definition's, of the number read back from v's bits, which is v.
--- Assumes nothing.
-use lib.IntN.{pos, negsuc}
+-- `filters::hold` meets its contract: what std's clamp gives is what is held. Assumes nothing.
+use mathlib.Core.Path.{◌∙◌}
 use mir.Syntax.{w32}
-use Rattle.filters.specs.Edge.{held}
-use Rattle.filters.proofs.Facts.{held_below, held_above, held_kept}
+use mir.Facts.{to_z-of_z}
+use Rattle.laws.proofs.Signed.{got}
+use Rattle.filters.proofs.Facts.{clamped}
 use Rattle.filters.proofs.hold.Goals as goal
 
-pub returns-then-v-ltminus128 : goal.returns-then-v-ltminus128
-unfolding held
-returns-then-v-ltminus128 c = held_below w32 (negsuc 127) (pos 127) c.ranges.v c.if-v-ltminus128.true
-
-pub returns-then-v-gt127 : goal.returns-then-v-gt127
-unfolding held
-returns-then-v-gt127 c = held_above w32 (negsuc 127) (pos 127) c.ranges.v c.if-v-ltminus128.false c.if-v-gt127.true
-
 pub returns : goal.returns
-unfolding held
-returns c = held_kept w32 (negsuc 127) (pos 127) c.ranges.v c.if-v-ltminus128.false c.if-v-gt127.false
+returns c = got w32 c.clamp.type_inv (rw (to_z-of_z c.ranges.v) at c.clamp.ensures.value ∙ clamped c.args.v)
