@@ -9,8 +9,7 @@ use lib.Dec.{ltb, eqb, lit<}
 use lib.IntN.{ℤ, pos, negsuc, nat_abs, sub_ℕ, ◌+ℤ◌, ◌-ℤ◌}
 use lib.ListN.{length, get_or}
 use lib.Signed.{mag}
-use Rattle.laws.specs.Lists.{listed}
-use Rattle.laws.proofs.Packed.{listed_length, listed_at, listed_ext}
+use Rattle.laws.proofs.Packed.{listed_length, listed_at, listed_ext, listed_of}
 use Rattle.laws.proofs.Bools.{either, not_both, both_left, both_right}
 use Rattle.laws.proofs.Pick.{pick_ind}
 use Rattle.laws.proofs.Signed.{sub_ind}
@@ -30,14 +29,16 @@ raised_byte b =
     (λ h. sub_ind 128 (suc (128 - suc b)) (λ z. nat_abs z ≡ b) (λ k. absurd (omega arith)) (λ k. omega arith))
     (λ h. omega arith)
 
--- ---- step 4
-pub plain_row : (mode q : ℕ) (lit : ℕ → ℕ → ℕ) (row : ℕ) → ((n : List (List ℤ)) → edge_of mode q n ≡ nine n 1 1) → listed (λ x. lit x row) 128 ≡ row_by mode q lit row
-unfolding pixel_by nine_of three_of signed_at
-plain_row mode q lit row e = listed_ext _ _ 128 (λ x _. sym (raised_byte (lit x row)) ∙ ap raised_of (sym (e (nine_of lit x row))))
+-- ---- step 4, by its columns: of a mode that is P, and of mode 1
+module _ (q : ℕ) (lit : ℕ → ℕ → ℕ) (row : ℕ) {p : List ℕ} (e : length p ≡ 128) where
+  pub plain_row : (mode : ℕ) → ((n : List (List ℤ)) → edge_of mode q n ≡ nine n 1 1) → ((x : ℕ) → x < 128 → get_or p x 0 ≡ lit x row) → p ≡ row_by mode q lit row
+  unfolding pixel_by nine_of three_of signed_at
+  plain_row mode m h =
+      listed_of p 128 e ∙ listed_ext _ _ 128 (λ x l. h x l ∙ sym (raised_byte (lit x row)) ∙ ap raised_of (sym (m (nine_of lit x row))))
 
-pub zero_row : (q : ℕ) (lit : ℕ → ℕ → ℕ) (row : ℕ) → listed (λ x. 128) 128 ≡ row_by 0x1 q lit row
-unfolding pixel_by edge_of raised_of
-zero_row q lit row = refl
+  pub zero_row : ((x : ℕ) → x < 128 → get_or p x 0 ≡ 128) → p ≡ row_by 0x1 q lit row
+  unfolding pixel_by edge_of raised_of
+  zero_row h = listed_of p 128 e ∙ listed_ext _ _ 128 h
 
 -- ---- step 5, in bytes
 

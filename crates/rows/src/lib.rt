@@ -2,18 +2,20 @@
 // bytes, 128 added to each; where the 1-D filter asks for the row below, a row's are worked out once and carried on to the next row.
 #![tactic(auto)]
 
-ghost use Rattle.std.specs.Prelude.{◌≡◌, ◌+◌, ◌<◌, ◌≤◌, length};
+ghost use Rattle.std.specs.Prelude.{◌≡◌, ◌+◌, ◌<◌, ◌≤◌, IsTrue};
 ghost use Rattle.std.specs.Int.Signed.{mag};
-ghost use Rattle.laws.specs.Lists.{listed};
 ghost use Rattle.lighting.specs.Aside.{Sane};
-ghost use Rattle.lighting.specs.Light.{Inside, byte_at};
-ghost use Rattle.rows.specs.Aside.{value_row, asks_below, negates, raised_of, row_by, less_of, less_row, negative_row, Carried};
+ghost use Rattle.lighting.specs.Light.{Within, byte_at};
+ghost use Rattle.filters.specs.Aside.{has_filter};
+ghost use Rattle.rows.specs.Aside.{value_row, asks_below, negates, raised_of, pixel_by, row_by, less_of, less_row, negative_row, Carried};
 
+use filters::filter;
 use lighting::Setting;
 use sensor::nine::nine;
 use sensor::row::passing;
 
 // A value with 128 added.
+#[tactic(auto, using(std::proofs::lemmas::Int::ints), unfolding(crate::specs::Aside::raised_of))]
 fn raise(v: i32) -> u8
     requires { mag v < 128 }
     ensures { result ≡ raised_of v }
@@ -21,125 +23,57 @@ fn raise(v: i32) -> u8
     (v + 128) as u8
 }
 
-// A row of step 4 values with 128 added, by mode: loops in which nothing is asked of the mode, the columns at the two edges apart. The columns between them
-// are 112 and 16, two of them done twice: multiples of 16, so that none is left over from a vector.
-fn row_2(store: &[u8], quarters: u8, row: usize, out: &mut [u8])
-    requires inside { Inside (length store.now) 0 row 8 120 }
-    requires quarters_bound { (quarters ≤ 20) × (length out.old ≡ 128) }
-    ensures { out.new ≡ row_by 0x2 quarters (byte_at store.now) row }
+// The step 4 value at a column of a row, with 128 added, by a mode that has a filter.
+#[tactic(auto, using(filters::proofs::Facts::edge_small, std::proofs::lemmas::Int::ints), unfolding(crate::specs::Aside::pixel_by))]
+fn pixel<const MODE: u8>(store: &[u8; 16384], quarters: u8, x: usize, row: usize) -> u8
+    requires mode { IsTrue (has_filter MODE) }
+    requires inside { Within x row 8 120 }
+    requires quarters_bound { quarters ≤ 20 }
+    ensures { result ≡ pixel_by MODE quarters (byte_at store.now) row x }
 {
-    out[0] = raise(filters::mode_2(quarters, nine(store, 0, row)));
+    raise(filter::<MODE>(quarters, nine(store, x, row)))
+}
+
+// A row of them. The mode is a constant of each instance, so that nothing is asked of it in a loop. Where bit 1 of it asks for W and E the columns at the
+// two edges stand apart, and those between them are 112 and 16, two of them done twice: multiples of 16, so that none is left over from a vector.
+#[tactic(auto, using(laws::proofs::Filled::filled_end))]
+fn row_of<const MODE: u8>(store: &[u8; 16384], quarters: u8, row: usize, out: &mut [u8; 128])
+    requires mode { IsTrue (has_filter MODE) }
+    requires inside { Within 0 row 8 120 }
+    requires quarters_bound { quarters ≤ 20 }
+    ensures { out.new ≡ row_by MODE quarters (byte_at store.now) row }
+{
+    if MODE / 2 % 2 == 0 {
+        for x in 0..128 {
+            out[x] = pixel::<MODE>(store, quarters, x, row);
+        }
+        return;
+    }
+    out[0] = pixel::<MODE>(store, quarters, 0, row);
     for x in 1..113 {
-        out[x] = raise(filters::mode_2(quarters, nine(store, x, row)));
+        out[x] = pixel::<MODE>(store, quarters, x, row);
     }
     for x in 111..127 {
-        out[x] = raise(filters::mode_2(quarters, nine(store, x, row)));
+        out[x] = pixel::<MODE>(store, quarters, x, row);
     }
-    out[127] = raise(filters::mode_2(quarters, nine(store, 127, row)));
+    out[127] = pixel::<MODE>(store, quarters, 127, row);
 }
 
-fn row_3(store: &[u8], quarters: u8, row: usize, out: &mut [u8])
-    requires inside { Inside (length store.now) 0 row 8 120 }
-    requires quarters_bound { (quarters ≤ 20) × (length out.old ≡ 128) }
-    ensures { out.new ≡ row_by 0x3 quarters (byte_at store.now) row }
-{
-    out[0] = raise(filters::mode_3(quarters, nine(store, 0, row)));
-    for x in 1..113 {
-        out[x] = raise(filters::mode_3(quarters, nine(store, x, row)));
-    }
-    for x in 111..127 {
-        out[x] = raise(filters::mode_3(quarters, nine(store, x, row)));
-    }
-    out[127] = raise(filters::mode_3(quarters, nine(store, 127, row)));
-}
-
-// Modes C and D ask nothing of the columns beside a pixel, so that no column stands apart.
-fn row_c(store: &[u8], quarters: u8, row: usize, out: &mut [u8])
-    requires inside { Inside (length store.now) 0 row 8 120 }
-    requires quarters_bound { (quarters ≤ 20) × (length out.old ≡ 128) }
-    ensures { out.new ≡ row_by 0xC quarters (byte_at store.now) row }
-{
-    for x in 0..128 {
-        out[x] = raise(filters::mode_c(quarters, nine(store, x, row)));
-    }
-}
-
-fn row_d(store: &[u8], quarters: u8, row: usize, out: &mut [u8])
-    requires inside { Inside (length store.now) 0 row 8 120 }
-    requires quarters_bound { (quarters ≤ 20) × (length out.old ≡ 128) }
-    ensures { out.new ≡ row_by 0xD quarters (byte_at store.now) row }
-{
-    for x in 0..128 {
-        out[x] = raise(filters::mode_d(quarters, nine(store, x, row)));
-    }
-}
-
-fn row_e(store: &[u8], quarters: u8, row: usize, out: &mut [u8])
-    requires inside { Inside (length store.now) 0 row 8 120 }
-    requires quarters_bound { (quarters ≤ 20) × (length out.old ≡ 128) }
-    ensures { out.new ≡ row_by 0xE quarters (byte_at store.now) row }
-{
-    out[0] = raise(filters::mode_e(quarters, nine(store, 0, row)));
-    for x in 1..113 {
-        out[x] = raise(filters::mode_e(quarters, nine(store, x, row)));
-    }
-    for x in 111..127 {
-        out[x] = raise(filters::mode_e(quarters, nine(store, x, row)));
-    }
-    out[127] = raise(filters::mode_e(quarters, nine(store, 127, row)));
-}
-
-fn row_f(store: &[u8], quarters: u8, row: usize, out: &mut [u8])
-    requires inside { Inside (length store.now) 0 row 8 120 }
-    requires quarters_bound { (quarters ≤ 20) × (length out.old ≡ 128) }
-    ensures { out.new ≡ row_by 0xF quarters (byte_at store.now) row }
-{
-    out[0] = raise(filters::mode_f(quarters, nine(store, 0, row)));
-    for x in 1..113 {
-        out[x] = raise(filters::mode_f(quarters, nine(store, x, row)));
-    }
-    for x in 111..127 {
-        out[x] = raise(filters::mode_f(quarters, nine(store, x, row)));
-    }
-    out[127] = raise(filters::mode_f(quarters, nine(store, 127, row)));
-}
-
-// Mode 1 is 0 always.
-fn row_zero(out: &mut [u8])
-    requires { length out.old ≡ 128 }
-    ensures { out.new ≡ listed (λ x. 128) 128 }
-{
-    for x in 0..128 {
-        out[x] = 128;
-    }
-}
-
-// Modes 0 and 4 to B are P, which with 128 added is the lit value.
-fn row_plain(store: &[u8], row: usize, out: &mut [u8])
-    requires inside { Inside (length store.now) 0 row 8 120 }
-    requires out_len { length out.old ≡ 128 }
-    ensures { out.new ≡ listed (λ x. byte_at store.now x row) 128 }
-{
-    for x in 0..128 {
-        out[x] = store[row * 128 + x];
-    }
-}
-
-// The step 4 values of a row, with 128 added: the mode is asked once.
-fn row_4(store: &[u8], mode: u8, quarters: u8, row: usize, out: &mut [u8])
-    requires inside { Inside (length store.now) 0 row 8 120 }
-    requires quarters_bound { (quarters ≤ 20) × (length out.old ≡ 128) }
+// The step 4 values of a row, with 128 added: the mode is asked once. Mode 1 is 0 always, and modes 0 and 4 to B are P, which with 128 added is the lit value.
+fn row_4(store: &[u8; 16384], mode: u8, quarters: u8, row: usize, out: &mut [u8; 128])
+    requires inside { Within 0 row 8 120 }
+    requires quarters_bound { quarters ≤ 20 }
     ensures { out.new ≡ row_by mode quarters (byte_at store.now) row }
 {
     match mode {
-        0x1 => row_zero(out),
-        0x2 => row_2(store, quarters, row, out),
-        0x3 => row_3(store, quarters, row, out),
-        0xC => row_c(store, quarters, row, out),
-        0xD => row_d(store, quarters, row, out),
-        0xE => row_e(store, quarters, row, out),
-        0xF => row_f(store, quarters, row, out),
-        _ => row_plain(store, row, out),
+        0x1 => out.fill(128),
+        0x2 => row_of::<0x2>(store, quarters, row, out),
+        0x3 => row_of::<0x3>(store, quarters, row, out),
+        0xC => row_of::<0xC>(store, quarters, row, out),
+        0xD => row_of::<0xD>(store, quarters, row, out),
+        0xE => row_of::<0xE>(store, quarters, row, out),
+        0xF => row_of::<0xF>(store, quarters, row, out),
+        _ => out.copy_from_slice(&store[row * 128..row * 128 + 128]),
     }
 }
 
@@ -148,32 +82,25 @@ fn less(p: u8, s: u8) -> u8
     ensures { result ≡ less_of p s }
 {
     if p < s {
-        let d = s - p;
-        if 128 < d {
-            return 0;
-        }
-        return 128 - d;
+        128 - (s - p).min(128)
+    } else {
+        128 + (p - s).min(127)
     }
-    let d = p - s;
-    if 127 < d {
-        return 255;
-    }
-    128 + d
 }
 
 // The 1-D filter's negative of a row, in its place.
-fn negate(out: &mut [u8])
-    requires { length out.old ≡ 128 }
+#[tactic(auto, using(laws::proofs::Filled::filled_end))]
+fn negate(out: &mut [u8; 128])
     ensures { out.new ≡ negative_row out.old }
 {
-    for x in 0..128 {
-        out[x] = less(128, out[x]);
+    for v in out.iter_mut() {
+        *v = less(128, *v);
     }
 }
 
-// Its difference of a row and the row below, in the latter's place, which is carried on.
-fn lessen(carried: &mut [u8], out: &mut [u8])
-    requires { (length carried.old ≡ 128) × (length out.old ≡ 128) }
+// Its difference of a row and the row below, in the latter's place, which is carried on. Both are written, by their index: after a zip with `iter_mut` a
+// proof knows nothing of what was written.
+fn lessen(carried: &mut [u8; 128], out: &mut [u8; 128])
     ensures { (out.new ≡ less_row carried.old out.old) × (carried.new ≡ out.old) }
 {
     for x in 0..128 {
@@ -184,29 +111,25 @@ fn lessen(carried: &mut [u8], out: &mut [u8])
 }
 
 // The mode passes the 1-D filter, and its kind asks for the row below.
+#[tactic(auto, unfolding(crate::specs::Aside::asks_below))]
 fn asks_below(set: Setting) -> bool
     ensures { result ≡ asks_below set }
 {
-    if !passing(set.mode) {
-        return false;
-    }
-    1 < set.kind
+    passing(set.mode) && 1 < set.kind
 }
 
 // The mode passes it, and its kind is the negative.
+#[tactic(auto, unfolding(crate::specs::Aside::negates))]
 fn negating(set: Setting) -> bool
     ensures { result ≡ negates set }
 {
-    if !passing(set.mode) {
-        return false;
-    }
-    set.kind == 0
+    passing(set.mode) && set.kind == 0
 }
 
 // What is carried into the first row that is asked for: its step 4 values, where the row below is asked for.
-pub fn first_row(store: &[u8], set: Setting, row: usize, carried: &mut [u8])
-    requires inside { Inside (length store.now) 0 row 8 119 }
-    requires sane { Sane set × (length carried.old ≡ 128) }
+pub fn first_row(store: &[u8; 16384], set: Setting, row: usize, carried: &mut [u8; 128])
+    requires inside { Within 0 row 8 119 }
+    requires sane { Sane set }
     ensures { Carried (byte_at store.now) set row carried.new }
 {
     if asks_below(set) {
@@ -215,9 +138,15 @@ pub fn first_row(store: &[u8], set: Setting, row: usize, carried: &mut [u8])
 }
 
 // The values of a row. What is carried moves on by a row.
-pub fn next_row(store: &[u8], set: Setting, row: usize, carried: &mut [u8], out: &mut [u8])
-    requires inside { Inside (length store.now) 0 row 8 119 }
-    requires sane { Sane set × (length out.old ≡ 128) }
+pub fn next_row(
+    store: &[u8; 16384],
+    set: Setting,
+    row: usize,
+    carried: &mut [u8; 128],
+    out: &mut [u8; 128],
+)
+    requires inside { Within 0 row 8 119 }
+    requires sane { Sane set }
     requires carried { Carried (byte_at store.now) set row carried.old }
     ensures { (out.new ≡ value_row (byte_at store.now) set row)
         × Carried (byte_at store.now) set (row + 1) carried.new }

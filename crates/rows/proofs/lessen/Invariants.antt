@@ -1,5 +1,4 @@
--- The invariants of `rows::lessen`. Assumes nothing.
-use Prim.Native.Nat.{◌-◌, ◌≤◌}
+-- The invariant of `rows::lessen`. Assumes nothing.
 use lib.ListN.{get_or}
 use Rattle.laws.proofs.Filled.{Filled}
 use Rattle.rows.specs.Aside.{less_of}
@@ -8,11 +7,7 @@ use Rattle.rows.proofs.lessen.Given as goal
 
 abbrev pub invariant-loop-x : goal.invariant-loop-x
 invariant-loop-x l =
-    (l.x ≤ 128)
-    × Filled (λ k. less_of (get_or l.initial.carried k 0) (get_or l.initial.out k 0)) 128 l.x l.out
+    Filled (λ k. less_of (get_or l.initial.carried k 0) (get_or l.initial.out k 0)) 128 l.x l.out
     × Kept l.initial.out l.x l.out
     × Filled (λ k. get_or l.initial.out k 0) 128 l.x l.carried
     × Kept l.initial.carried l.x l.carried
-
-abbrev pub decreases-loop-x : goal.decreases-loop-x
-decreases-loop-x l = 128 - l.x
