@@ -26,8 +26,7 @@ pub trait Turned {
     ghost bits: { (row : Self) (p : ℕ) → (low row p < 2) × (high row p < 2) };
 }
 
-// The two halves of a row, one from each by turns: a vector's own step. (No plainer: a zip of the halves flattened is a step for each element, and after
-// a zip with `iter_mut` a proof knows nothing of what was written.)
+// The two halves of a row, one from each by turns: a vector's own step. (`array::from_fn` was tried: it becomes no vector code, and takes six times as long.)
 fn interleave(a: &[u8; 128]) -> [u8; 128]
     ensures { result ≡ listed (λ p. get_or a.now (p % 2 * 64 + p / 2) 0) 128 }
 {
