@@ -1,5 +1,5 @@
 -- Digits and the numbers that they spell: laws of `digit_of`, `hex_part`, `number_at` and `number_of`. Assumes nothing.
-use Rattle.std.proofs.Common.{◌≡◌, ℕ, zero, suc, ◌+◌, ◌-◌, ◌*◌, ◌^◌, ◌<◌, ◌≤◌, Bool, true, false, ◌&&◌, leb, Option, Some, None, List, [], ◌∷◌, ◌++◌, length, get_or, take, drop, take_at, sym, refl, ap, ap₂, ◌∙◌, add-zero, add_assoc, add-suc, pow-suc, zero-add, add-one, arith, lit<, le-ltb, lt-ltb, le-leb, leb-true}
+use Rattle.std.proofs.Common.{◌≡◌, ℕ, zero, suc, ◌+◌, ◌-◌, ◌*◌, ◌^◌, ◌<◌, ◌≤◌, Bool, true, false, ◌&&◌, leb, Some, None, List, [], ◌∷◌, ◌++◌, length, get_or, take, drop, take_at, sym, refl, ap, ap₂, ◌∙◌, add-zero, add_assoc, add-suc, pow-suc, zero-add, add-one, arith, lit<, le-ltb, lt-ltb, le-leb, leb-true}
 use Rattle.std.proofs.lemmas.List.{get_or-take, get_or-drop, length_push}
 use lib.Seq.{get_or_at}
 use mathlib.Core.Bool.{and-true, and-false, and_assoc, false≢true}
@@ -9,15 +9,6 @@ use Rattle.laws.proofs.Bools.{either, both_left, both_right}
 use Rattle.laws.proofs.Order.{split}
 use Rattle.lines.specs.Hex.{digit_byte}
 use Rattle.lines.specs.Line.{is_hex, worth, hex_part, number_at, number_of}
-
--- an answer that is a value was picked by a test that held
-pub number_is : (t : Bool) (v d : ℕ) → pick t (Some v) None ≡ Some d → (t ≡ true) × (d ≡ v)
-number_is true v d e = (refl, cc)
-number_is false v d e = absurd (cc)
-
-pub number_isnt : (t : Bool) (v : ℕ) → pick t (Some v) None ≡ None → t ≡ false
-number_isnt true v e = absurd (cc)
-number_isnt false v e = refl
 
 -- past 39h a digit is a letter
 above : (b : ℕ) → 0x39 < b → is_hex b ≡ (leb 0x41 b && leb b 0x46)
@@ -76,41 +67,16 @@ unfolding hex_part
 hex_parts line at n zero = simp add-zero (sym (and-true (hex_part line at n)))
 hex_parts line at n (suc m) = simp (add-suc, hex_parts line at n m, add_assoc) (and_assoc (hex_part line at n) (hex_part line (at + n) m) (is_hex (get_or line (at + (n + m)) 0)))
 
-pub hex_joined : (line : List ℕ) (at n m : ℕ) → hex_part line at n ≡ true → hex_part line (at + n) m ≡ true → hex_part line at (n + m) ≡ true
-hex_joined line at n m p q = hex_parts line at n m ∙ simp (p, q)
-
-pub hex_broken : (line : List ℕ) (at n m : ℕ) → hex_part line at n ≡ true → hex_part line (at + n) m ≡ false → hex_part line at (n + m) ≡ false
-hex_broken line at n m p q = hex_parts line at n m ∙ simp (p, q)
-
--- what a number that was read, or was not, tells of the line
-pub none_of : (line : List ℕ) (at n : ℕ) (r : Option ℕ) → r ≡ number_of line at n → r ≡ None → hex_part line at n ≡ false
-unfolding number_of
-none_of line at n r e f = number_isnt (hex_part line at n) (number_at line at n) (sym e ∙ f)
-
 pub record Spells (line : List ℕ) (at n v : ℕ) : Type 0 where
   pub hex : hex_part line at n ≡ true
   pub is : v ≡ number_at line at n
   pub small : v < 16 ^ n
-
-pub some_of : (line : List ℕ) (at n : ℕ) (r : Option ℕ) (v : ℕ) → r ≡ number_of line at n → r ≡ Some v → Spells line at n v
-unfolding number_of
-some_of line at n r v e f =
-    let s = number_is (hex_part line at n) (number_at line at n) v (sym e ∙ f) in
-    record { hex = s.0; is = s.1; small = rw s.1 (number_small line at n s.0) }
 
 -- a part with a byte that is no digit is none
 pub hex_stops : (line : List ℕ) (at i n : ℕ) → i < n → is_hex (get_or line (at + i) 0) ≡ false → hex_part line at n ≡ false
 hex_stops line at i n l h =
     let e : n ≡ (i + 1) + (n - (i + 1)) = omega arith in
     ap (hex_part line at) e ∙ hex_fails line at (i + 1) (n - (i + 1)) (hex_more line at i ∙ simp (h, and-false))
-
-pub number_none : (line : List ℕ) (at n : ℕ) → hex_part line at n ≡ false → number_of line at n ≡ None
-unfolding number_of
-number_none line at n h = simp h
-
-pub number_some : (line : List ℕ) (at n : ℕ) → hex_part line at n ≡ true → number_of line at n ≡ Some (number_at line at n)
-unfolding number_of
-number_some line at n h = simp h
 
 -- a part of digits is digits
 pub hex_within : (line : List ℕ) (n k m : ℕ) → hex_part line 0 n ≡ true → k + m ≤ n → hex_part line k m ≡ true
@@ -166,3 +132,24 @@ hex_behind bytes b =
 pub hex_none : true ≡ hex_part [] 0 0
 unfolding hex_part
 hex_none = refl
+
+-- the parts of a line of each kind
+pub six : (line : List ℕ) → hex_part line 0 6 ≡ (hex_part line 0 2 && hex_part line 2 4)
+six line = hex_parts line 0 2 4
+
+pub eight : (line : List ℕ) → hex_part line 0 8 ≡ ((hex_part line 0 2 && hex_part line 2 4) && hex_part line 6 2)
+eight line = hex_parts line 0 6 2 ∙ ap (λ t. t && hex_part line 6 2) (six line)
+
+pub ten : (line : List ℕ) → hex_part line 0 10 ≡ (hex_part line 0 2 && hex_part line 2 8)
+ten line = hex_parts line 0 2 8
+
+pub row : (line : List ℕ) → hex_part line 0 260 ≡ ((hex_part line 0 2 && hex_part line 2 2) && hex_part line 4 256)
+row line = hex_parts line 0 4 256 ∙ ap (λ t. t && hex_part line 4 256) (hex_parts line 0 2 2)
+
+pub four_small : (line : List ℕ) (at : ℕ) → hex_part line at 4 ≡ true → number_at line at 4 < 65536
+four_small line at h = number_small line at 4 h
+
+pub two_small : (line : List ℕ) (at : ℕ) → hex_part line at 2 ≡ true → number_at line at 2 < 256
+two_small line at h = number_small line at 2 h
+
+pub ruleset parts = (six, eight, ten, row, four_small, two_small)

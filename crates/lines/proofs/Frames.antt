@@ -1,13 +1,12 @@
 -- Which lines are malformed: laws of `spelled` and `frame_of`. Assumes nothing.
-use Rattle.std.proofs.Common.{◌≡◌, ℕ, ◌+◌, ◌<◌, ◌≤◌, Bool, true, false, ◌&&◌, eqb, leb, Option, Some, None, List, length, sym, refl, zero-add, arith, ne_eqb, eqb-true, leb-true}
+use Rattle.std.proofs.Common.{◌≡◌, ℕ, ◌<◌, Bool, true, false, ◌&&◌, eqb, leb, List, length, refl, arith, ne_eqb, eqb-true, leb-true}
 use mathlib.Core.Bool.{and-false}
 use Rattle.laws.specs.Pick.{pick}
-use Rattle.laws.proofs.Bools.{either, not_both, both_left, both_right}
+use Rattle.laws.proofs.Bools.{both_left, both_right}
 use Rattle.laws.proofs.Pick.{pick_one}
 use Rattle.lines.specs.declared.line.Frame.{Frame}
 use Rattle.lines.specs.declared.line.Frame.TheVariants.{Reset, Read, Write, Tick, Row, Malformed}
-use Rattle.lines.specs.Line.{is_line, hex_part, number_at, number_of, spelled, frame_of}
-use Rattle.lines.proofs.Digits.{none_of, some_of, hex_joined, hex_within}
+use Rattle.lines.specs.Line.{is_line, hex_part, number_at, spelled, frame_of}
 
 -- what was picked is not what is different
 other : (t : Bool) (a b x : Frame) → pick t a b ≡ x → (a ≡ x → ⊥) → b ≡ x
@@ -63,16 +62,3 @@ module _ (line : List ℕ) where
       let small = leb-true (number_at line 2 2) 0x7F (both_right (is_line line 4 260) (leb (number_at line 2 2) 0x7F) r.0) in
       let same : number_at line 2 2 ≡ y = cc r.1 in
       (long, rw long at h.0, omega arith)
-
--- what was read of a line, or could not be: a number of n digits from a place on
-module _ (line : List ℕ) (at n : ℕ) (r : Option ℕ) (is : r ≡ number_of line at n) where
-  -- bytes that are no digits make a line malformed
-  pub unread : at + n ≤ length line → r ≡ None → Malformed ≡ frame_of line
-  unread h e =
-      either (hex_part line 0 (length line))
-      (λ t. not_both (hex_within line (length line) at n t h) (none_of line at n r is e))
-      (λ f. sym (bad line f))
-
-  -- digits up to a number's end
-  pub read_on : (v : ℕ) → hex_part line 0 at ≡ true → r ≡ Some v → hex_part line 0 (at + n) ≡ true
-  read_on v h e = hex_joined line 0 at n h (rw zero-add (some_of line at n r v is e).hex)

@@ -11,7 +11,7 @@ pub fn digit_byte(d: u8) -> u8
     if d < 10 { b'0' + d } else { b'A' + (d - 10) }
 }
 
-// Puts n digits of a value into a buffer, the last digit first.
+// Puts n digits of a value into a buffer, the last digit first. By place: after a `rev` of `iter_mut` a proof knows nothing of what was written.
 pub fn put_digits(out: &mut [u8], at: usize, n: usize, value: u32)
     requires { at + n ≤ length out.old }
     ensures { out.new ≡ placed out.old at (hex_text n value) }

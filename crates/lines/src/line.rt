@@ -1,5 +1,7 @@
 // A script line, without its LF, to the frame that it says.
-ghost use Rattle.std.specs.Prelude.{◌≡◌, ◌+◌, ◌<◌, ◌≤◌, ◌^◌, true, length};
+#![tactic(auto, using(crate::proofs::Digits::parts), unfolding(crate::specs::Line::frame_of, crate::specs::Line::spelled, crate::specs::Line::number_of))]
+
+ghost use Rattle.std.specs.Prelude.{◌≡◌, ◌+◌, ◌<◌, ◌≤◌, true, length};
 ghost use Rattle.lines.specs.Line.{is_hex, worth, hex_part, number_at, number_of, Begins, frame_of};
 
 use super::reader::LineReader;
@@ -32,7 +34,7 @@ fn worth_of(b: u8) -> u32
 }
 
 // Whether all bytes are digits. Nothing is decided at a byte, so that many are looked at together.
-fn all_hex<const N: usize>(bytes: &[u8; N]) -> bool
+pub(crate) fn all_hex<const N: usize>(bytes: &[u8; N]) -> bool
     ensures { result ≡ hex_part bytes.now 0 N }
 {
     bytes.iter().fold(true, |all, b| all & is_digit(*b))
@@ -56,9 +58,10 @@ pub(crate) fn number_of<const N: usize>(bytes: &[u8; N]) -> Option<u32>
     ensures { result ≡ number_of bytes.now 0 N }
 {
     if all_hex(bytes) {
-        return Some(spelt(bytes));
+        Some(spelt(bytes))
+    } else {
+        None
     }
-    None
 }
 
 // `00` reset.
@@ -66,10 +69,11 @@ fn reset_line(line: &[u8]) -> Frame
     requires { Begins line.now 0 }
     ensures { result ≡ frame_of line.now }
 {
-    if line.len() != 2 {
-        return Frame::Malformed;
+    if line.len() == 2 {
+        Frame::Reset
+    } else {
+        Frame::Malformed
     }
-    Frame::Reset
 }
 
 // `01` four-digit address.
@@ -133,7 +137,7 @@ fn row_line(line: &[u8]) -> Frame
     if 0x7F < y {
         return Frame::Malformed;
     }
-    if !all_hex(reader.take::<256>()) {
+    if !reader.all_hex::<256>() {
         return Frame::Malformed;
     }
     Frame::Row(y as u8)

@@ -1,9 +1,9 @@
 // The line reader: the lent line together with its place in it.
 // What digits mean is read by functions on plain bytes; its methods are thin.
 ghost use Rattle.std.specs.Prelude.{◌≡◌, ◌+◌, ◌≤◌, length, take, drop};
-ghost use Rattle.lines.specs.Line.{number_of};
+ghost use Rattle.lines.specs.Line.{hex_part, number_of};
 
-use super::line::number_of;
+use super::line::{all_hex, number_of};
 
 #[derive(Clone, Copy)]
 pub struct LineReader<'a> {
@@ -20,7 +20,7 @@ impl<'a> LineReader<'a> {
     }
 
     // The next N bytes. The reader stands after them then.
-    pub(crate) fn take<const N: usize>(&mut self) -> &'a [u8; N]
+    fn take<const N: usize>(&mut self) -> &'a [u8; N]
         requires { self.old.at + N ≤ length self.old.line.now }
         ensures moved { (self.new.line ≡ self.old.line) × (self.new.at ≡ self.old.at + N) }
         ensures bytes { result.now ≡ take N (drop self.old.at self.old.line.now) }
@@ -39,5 +39,15 @@ impl<'a> LineReader<'a> {
         ensures value { result ≡ number_of self.old.line.now self.old.at N }
     {
         number_of(self.take::<N>())
+    }
+
+    // Whether the next N bytes are all digits. The reader stands after them then.
+    #[tactic(auto, using(crate::proofs::Digits::hex_cut))]
+    pub(crate) fn all_hex<const N: usize>(&mut self) -> bool
+        requires { self.old.at + N ≤ length self.old.line.now }
+        ensures moved { (self.new.line ≡ self.old.line) × (self.new.at ≡ self.old.at + N) }
+        ensures value { result ≡ hex_part self.old.line.now self.old.at N }
+    {
+        all_hex(self.take::<N>())
     }
 }
