@@ -161,7 +161,13 @@ fn end_of(book: &[u64], serial: u16, cycles: u64, plate: u32) -> Seen
 }
 
 // The event of a line, by its kind; where there is none, nothing that it may say is worked out.
-pub fn event_of(kind: Option<Kind>, book: &[u64], image: &[u8], ram: &[u8], step: Step) -> Option<Seen>
+pub fn event_of(
+    kind: Option<Kind>,
+    book: &[u64],
+    image: &[u8],
+    ram: &[u8],
+    step: Step,
+) -> Option<Seen>
     requires { (length book.now ≡ 13) × (kind ≡ Some Kind.End → ram_allowed (length ram.now) ≡ true) }
     ensures { (regs : List ℕ) → event_from result regs ≡ event_by book.now image.now ram.now regs (facts_of step) kind }
 {

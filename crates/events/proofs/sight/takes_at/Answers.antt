@@ -20,14 +20,14 @@ pub returns-then-state-ne1 : goal.returns-then-state-ne1
 returns-then-state-ne1 c =
     let e = takes_byte c.args.state.now c.registers_on.result (c.registers_on.ensures ∙ on_at c.args.state.now) in
     elim c.if-not-registers_on.branch [
-      then-not-registers_on w ↦ sym (simp (w.if-not-registers_on.true, sym w.value-is ∙ c.if-state-ne1.true) at e)
-    | else-not-registers_on w ↦ absurd (false≢true (sym (w.value-is ∙ ap not w.if-not-registers_on.false) ∙ c.if-state-ne1.true))
+      | then-not-registers_on w ↦ sym (simp (w.if-not-registers_on.true, sym w.value-is ∙ c.if-state-ne1.true) at e)
+      | else-not-registers_on w ↦ absurd (false≢true (sym (w.value-is ∙ ap not w.if-not-registers_on.false) ∙ c.if-state-ne1.true))
     ]
 
 pub returns-else-state-ne1 : goal.returns-else-state-ne1
 returns-else-state-ne1 c =
     let e = takes_byte c.args.state.now c.registers_on.result (c.registers_on.ensures ∙ on_at c.args.state.now) in
     elim c.if-not-registers_on.branch [
-      then-not-registers_on w ↦ c.if-state-ne1.false ∙ sym (simp (w.if-not-registers_on.true, sym w.value-is ∙ c.if-state-ne1.false) at e)
-    | else-not-registers_on w ↦ c.if-state-ne1.false ∙ sym (simp w.if-not-registers_on.false at e)
+      | then-not-registers_on w ↦ c.if-state-ne1.false ∙ sym (simp (w.if-not-registers_on.true, sym w.value-is ∙ c.if-state-ne1.false) at e)
+      | else-not-registers_on w ↦ c.if-state-ne1.false ∙ sym (simp w.if-not-registers_on.false at e)
     ]
