@@ -11,6 +11,7 @@ use wording::events::{
 };
 
 // Puts the text of an event at a place of a buffer, and returns the place after it.
+#[tactic(auto, using(crate::proofs::Puts::put_nothing), unfolding(crate::specs::Entry::event_text, crate::specs::Aside::event_from))]
 pub fn put_event(
     out: &mut [u8],
     at: usize,
