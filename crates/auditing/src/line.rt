@@ -48,7 +48,12 @@ fn entered(
 {
     let line = one_more(book[LINES]);
     let seen = event_of(step.kind(), book, image, ram, step);
-    count_line(book, is_malformed(step.frame), is_row(step.frame), step.number);
+    count_line(
+        book,
+        is_malformed(step.frame),
+        is_row(step.frame),
+        step.number,
+    );
     count_event(book, seen);
     put_event(out, at, line, seen, registers)
 }

@@ -36,11 +36,6 @@ takes_byte s on e = (λ i. not (sym e i) && pick (busy_at s i) false (eqb (get_o
     as_both true t = refl
     as_both false t = refl
 
-pub sight_is : (s : List ℕ) (r : Bool) (n e : ℕ) (o : Bool) → r ≡ running (decoded s) → n ≡ two_at s 9 → e ≡ four_at s 5 → o ≡ takes_writes (decoded s)
-    → ◌≡◌ {A = Sight} (record { held = eqb (get_or s 4 0) 1; running = r; serial = n; elapsed = e; select = get_or s 3 0; takes = o }) (sight_of (decoded s))
-unfolding decoded
-sight_is s r n e o p q t u = λ i. record { held = eqb (get_or s 4 0) 1; running = p i; serial = q i; elapsed = t i; select = get_or s 3 0; takes = u i }
-
 -- the file of a plate, where the RAM's length is allowed and the buffer is as long as it
 pub plate_file : (ram out file : List ℕ) (n v : ℕ) → ram_allowed (length ram) ≡ true → length out ≡ 14351 → exported n v file ≡ export_means ram out → file ≡ plate_of ram
 unfolding export_rows lowest

@@ -37,6 +37,7 @@ pub const WHOLE: usize = 11;
 pub const DROPPED: usize = 12;
 
 // One more; the largest number stays.
+#[tactic(auto, unfolding(crate::specs::Book::one_more))]
 pub fn one_more(n: u64) -> u64
     ensures { result ≡ one_more n }
 {
@@ -82,6 +83,7 @@ fn first_touched(book: &[u64]) -> u64
 }
 
 // A bus write in the picture area.
+#[tactic(auto, unfolding(crate::specs::Entry::touch_counted))]
 fn count_touch(book: &mut [u64])
     requires { length book.old ≡ 13 }
     ensures { book.new ≡ touch_counted book.old }
@@ -93,6 +95,7 @@ fn count_touch(book: &mut [u64])
 }
 
 // An event; where there is none the book stays.
+#[tactic(auto, unfolding(crate::specs::Entry::event_counted, crate::specs::Aside::event_from))]
 pub fn count_event(book: &mut [u64], seen: Option<Seen>)
     requires { length book.old ≡ 13 }
     ensures { (regs : List ℕ) → book.new ≡ event_counted book.old (event_from seen regs) }

@@ -150,6 +150,7 @@ fn plate_sum(ram: &[u8]) -> u32
 }
 
 // An end: whole where no bus write landed in the picture area.
+#[tactic(auto, unfolding(crate::specs::Event::end_of, crate::specs::Aside::event_from))]
 fn end_of(book: &[u64], serial: u16, cycles: u64, plate: u32) -> Seen
     requires { length book.now ≡ 13 }
     ensures { (regs : List ℕ) → event_from (Some result) regs ≡ end_of book.now serial cycles plate }
@@ -161,7 +162,14 @@ fn end_of(book: &[u64], serial: u16, cycles: u64, plate: u32) -> Seen
 }
 
 // The event of a line, by its kind; where there is none, nothing that it may say is worked out.
-pub fn event_of(kind: Option<Kind>, book: &[u64], image: &[u8], ram: &[u8], step: Step) -> Option<Seen>
+#[tactic(auto, unfolding(crate::specs::Aside::event_by, crate::specs::Aside::event_from))]
+pub fn event_of(
+    kind: Option<Kind>,
+    book: &[u64],
+    image: &[u8],
+    ram: &[u8],
+    step: Step,
+) -> Option<Seen>
     requires { (length book.now ≡ 13) × (kind ≡ Some Kind.End → ram_allowed (length ram.now) ≡ true) }
     ensures { (regs : List ℕ) → event_from result regs ≡ event_by book.now image.now ram.now regs (facts_of step) kind }
 {

@@ -28,6 +28,7 @@ fn serial_at(state: &[u8]) -> u16
 }
 
 // Whether bus writes at and above 8000h go to the RAM.
+#[tactic(auto, using(calls::proofs::Bytes::long))]
 fn takes_at(state: &[u8]) -> bool
     requires { is_record state.now ≡ true }
     ensures { result ≡ takes_writes (decoded state.now) }
@@ -36,6 +37,7 @@ fn takes_at(state: &[u8]) -> bool
 }
 
 // What is seen of a record.
+#[tactic(auto, using(calls::proofs::Bytes::long, calls::proofs::Bytes::running_at), unfolding(layout::specs::Layout::decoded))]
 pub fn look(state: &[u8]) -> Sight
     requires { is_record state.now ≡ true }
     ensures { result ≡ sight_of (decoded state.now) }

@@ -11,7 +11,14 @@ use wording::events::{
 };
 
 // Puts the text of an event at a place of a buffer, and returns the place after it.
-pub fn put_event(out: &mut [u8], at: usize, line: u64, seen: Option<Seen>, registers: &[u8]) -> usize
+#[tactic(auto, using(crate::proofs::Puts::put_nothing), unfolding(crate::specs::Entry::event_text, crate::specs::Aside::event_from))]
+pub fn put_event(
+    out: &mut [u8],
+    at: usize,
+    line: u64,
+    seen: Option<Seen>,
+    registers: &[u8],
+) -> usize
     requires { (at + 256 ≤ length out.old) × (length registers.now ≡ 54) }
     ensures { Put out.old at (event_text line (event_from seen registers.now)) 256 out.new result }
 {

@@ -19,8 +19,8 @@ returns c = (
   record {
     played = λ y t.
         elim c.else-book-eq13.branch [
-          else-book-eq13-via-then-book-eq13+else-is_record w ↦ not_both y (sym w.is_record.ensures ∙ w.if-is_record.false)
-        | else-book-eq13-via-else-book-eq13 w ↦ absurd (w.if-book-eq13.false t)
+          | else-book-eq13-via-then-book-eq13+else-is_record w ↦ not_both y (sym w.is_record.ensures ∙ w.if-is_record.false)
+          | else-book-eq13-via-else-book-eq13 w ↦ absurd (w.if-book-eq13.false t)
         ];
     left = λ _. (refl, refl);
   },
