@@ -1,7 +1,4 @@
 // A capture in each of modes 0, 2, 3, C, D, E, F over one image, by bus writes and a tick.
-ghost use Rattle.std.specs.Prelude.{◌<◌};
-
-use super::print::{bytes, digit, long, number, text};
 use controller::Controller;
 use lighting::Setting;
 use std::io;
@@ -27,7 +24,8 @@ fn light(i: usize) -> u8 {
 
 // The image, 128 * 128 bytes, row by row.
 fn image() -> [u8; 16384] {
-    let mut out = [0u8; 16384];
+    let mut out = [0; 16384];
+    // By its index: the edit `past_the_image` goes past the loop's end, which no iterator over the image could.
     for i in 0..16384 {
         out[i] = light(i);
     }
@@ -37,98 +35,77 @@ fn image() -> [u8; 16384] {
 // A000 to A005 as given, then the matrix.
 fn registers(first: &[u8; 6]) -> [u8; 54] {
     let mut regs = DEFAULT;
-    regs[0] = first[0];
-    regs[1] = first[1];
-    regs[2] = first[2];
-    regs[3] = first[3];
-    regs[4] = first[4];
-    regs[5] = first[5];
+    regs[..6].copy_from_slice(first);
     regs
 }
 
-// A bus write.
-fn put(
-    c: Controller,
-    ram: &mut [u8; 8192],
-    store: &mut [u8; 16384],
-    image: &[u8; 16384],
-    address: u16,
-    value: u8,
-) -> Controller {
-    let done = cartridge::write(c, ram, store, image, address, value);
-    done.state
+// The cartridge: its state, and what its bus lends a call.
+#[derive(Drop)]
+struct Cartridge<'a> {
+    state: Controller,
+    ram: [u8; 8192],
+    store: [u8; 16384],
+    image: &'a [u8; 16384],
 }
 
-// Writes registers 1 to 53.
-fn set_up(
-    c: Controller,
-    ram: &mut [u8; 8192],
-    store: &mut [u8; 16384],
-    image: &[u8; 16384],
-    regs: &[u8; 54],
-) -> Controller {
-    let mut next = c;
-    for i in 1u16..54 {
-        next = put(next, ram, store, image, 0xA000 + i, regs[i as usize]);
+impl<'a> Cartridge<'a> {
+    // A bus write.
+    fn put(&mut self, address: u16, value: u8) {
+        let image = self.image;
+        let done = cartridge::write(
+            self.state,
+            &mut self.ram,
+            &mut self.store,
+            image,
+            address,
+            value,
+        );
+        self.state = done.state;
     }
-    next
-}
 
-// From reset: selects the registers, writes them, starts with register 0, and ticks past the largest total.
-fn capture(
-    ram: &mut [u8; 8192],
-    store: &mut [u8; 16384],
-    image: &[u8; 16384],
-    regs: &[u8; 54],
-) -> u32 {
-    let selected = put(Controller::reset(), ram, store, image, 0x4000, 0x10);
-    let ready = set_up(selected, ram, store, image, regs);
-    let started = put(ready, ram, store, image, 0xA000, regs[0]);
-    let done = capture::tick(started, ram, store, 2000000);
-    done.answer.map_or(0, |n| n.0)
-}
-
-// A byte as a wider number, with its bound.
-fn wide(x: u8) -> u64
-    ensures { result < 256 }
-{
-    x as u64
+    // From reset: selects the registers, writes 1 to 53, starts with register 0, and ticks past the largest total.
+    fn capture(&mut self, regs: &[u8; 54]) -> u32 {
+        self.put(0x4000, 0x10);
+        for (address, value) in (0xA001..).zip(&regs[1..]) {
+            self.put(address, *value);
+        }
+        self.put(0xA000, regs[0]);
+        let done = capture::tick(self.state, &mut self.ram, &self.store, 2000000);
+        done.answer.map_or(0, |n| n.0)
+    }
 }
 
 // Bytes as one number, the first the highest, modulo the largest prime below 2^32.
-fn sum(s: &[u8]) -> u64 {
-    let mut n: u64 = 0;
+fn sum(s: &[u8]) -> u32 {
+    s.iter().fold(0, |n, b| {
+        ((u64::from(n) * 256 + u64::from(*b)) % 4294967291) as u32
+    })
+}
+
+// Bytes, each after a space.
+fn bytes(rt: &impl Print, s: &[u8]) -> io::Result<()> {
     for b in s {
-        n = (n * 256 + wide(*b)) % 4294967291;
+        print!(rt; " {b:02X}")?;
     }
-    n
+    Ok(())
 }
 
-// What the area holds: its 3,584 bytes as one number, and its first tile.
-fn area(rt: &impl Print, ram: &[u8; 8192]) -> io::Result<()> {
-    let all = &ram[..];
-    text(rt, b", sum ")?;
-    long(rt, sum(&all[0x100..0xF00]))?;
-    text(rt, b", first tile")?;
-    bytes(rt, &all[0x100..0x110])?;
-    text(rt, b"\n")
-}
-
-// One capture: its mode and registers, its cycles, and what it left in a RAM of bytes FF.
+// One capture: its mode and registers, its cycles, and what it left in a RAM of bytes FF: the area's 3,584 bytes as one number, and its first tile.
 fn mode(rt: &impl Print, first: &[u8; 6], image: &[u8; 16384]) -> io::Result<()> {
-    let mut ram = [0xFFu8; 8192];
-    let mut store = [0u8; 16384];
+    let mut cartridge = Cartridge {
+        state: Controller::reset(),
+        ram: [0xFF; 8192],
+        store: [0; 16384],
+        image,
+    };
     let regs = registers(first);
-    let set = Setting::of(&regs);
-    let cycles = capture(&mut ram, &mut store, image, &regs);
-    text(rt, b"mode ")?;
-    text(rt, &[digit(set.mode)])?;
-    text(rt, b": A000-A005")?;
+    let cycles = cartridge.capture(&regs);
+    print!(rt; "mode {:X}: A000-A005", Setting::of(&regs).mode)?;
     bytes(rt, first)?;
-    text(rt, b", ")?;
-    number(rt, u64::from(cycles))?;
-    text(rt, b" cycles")?;
-    area(rt, &ram)
+    let sum = sum(&cartridge.ram[0x100..0xF00]);
+    print!(rt; ", {cycles} cycles, sum {sum:08X}, first tile")?;
+    bytes(rt, &cartridge.ram[0x100..0x110])?;
+    println!(rt)
 }
 
 // Between them: -P, P and P - s in step 5, inversion, five ratios, and gain, Vref and A005 bits that count for nothing.

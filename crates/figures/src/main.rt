@@ -2,21 +2,14 @@
 #![tactic(auto)]
 
 mod captures;
-mod print;
 mod shades;
 
-use print::{number, text, word};
 use std::io;
 
 // Step 2: a value times exposure / 256, at most 255.
 fn exposed(rt: &impl Print, v: u8, exposure: u16) -> io::Result<()> {
-    text(rt, b"step 2: ")?;
-    number(rt, u64::from(v))?;
-    text(rt, b" at ")?;
-    word(rt, exposure)?;
-    text(rt, b"h gives ")?;
-    number(rt, u64::from(lighting::expose(exposure, v)))?;
-    text(rt, b"\n")
+    let given = lighting::expose(exposure, v);
+    println!(rt; "step 2: {v} at {exposure:04X}h gives {given}")
 }
 
 fn main(rt: HostRuntime) -> io::Result<()> {
