@@ -1,13 +1,13 @@
 // The salvage program: a script on standard input, the cleaned script on standard output, one sentence on standard error.
 #![tactic(auto)]
 
-ghost use Rattle.std.specs.Prelude.{◌≡◌};
+ghost use Rattle.std.specs.Prelude.{◌≡◌, IfOk};
 ghost use Rattle.std.specs.Counts.{IsPrefixLen};
 ghost use Rattle.salvage.specs.Counted.{counted};
 
 use salvaging::Salvaged;
 use salvaging::put::{KEPT, MALFORMED, REPEATED};
-use std::io::{Read, Write};
+use std::io::{self, Read, Write};
 
 // Words of the sentence. Where it cannot be written, nothing more can be said.
 fn say(rt: &impl Eprint, s: &str) {
@@ -23,59 +23,29 @@ fn number(rt: &impl Eprint, n: u64) {
 fn within(n: usize, buf: &[u8]) -> usize
     ensures { IsPrefixLen result buf.now }
 {
-    let most = buf.len();
-    if n < most {
-        return n;
-    }
-    most
+    n.min(buf.len())
 }
 
-// How much of the input was read, and whether that is all of it, or all that fits.
-#[derive(Clone, Copy)]
-struct Gathered {
-    length: usize,
-    whole: bool,
-}
-
-// Reads until the buffer is full, the input ends or a read fails, which is not the end of the input.
-fn gather(source: &mut impl Read, buf: &mut [u8]) -> Gathered
-    ensures { IsPrefixLen result.length buf.new }
+// Reads until the buffer is full or the input ends: how many bytes. A read that fails is not the end of the input.
+fn gather(source: &mut impl Read, buf: &mut [u8]) -> io::Result<usize>
+    ensures { IfOk result (λ n. IsPrefixLen n buf.new) }
 {
     let mut at = 0;
     while at < buf.len() {
-        match source.read(&mut buf[at..]) {
-            Ok(0) => {
-                return Gathered {
-                    length: at,
-                    whole: true,
-                };
-            }
-            Ok(more) => at += more,
-            Err(_) => {
-                return Gathered {
-                    length: at,
-                    whole: false,
-                };
-            }
+        let more = source.read(&mut buf[at..])?;
+        if more == 0 {
+            break;
         }
+        at += more;
     }
-    Gathered {
-        length: at,
-        whole: true,
-    }
+    Ok(at)
 }
 
 // How many bytes of a report are m.
 fn count(report: &[u8], m: u8) -> usize
     ensures { result ≡ counted m report.now }
 {
-    let mut n = 0;
-    for b in report {
-        if *b == m {
-            n += 1;
-        }
-    }
-    n
+    report.iter().filter(|b| **b == m).count()
 }
 
 // So many lines kept, malformed, repeated.
@@ -127,14 +97,14 @@ fn main(rt: HostRuntime) {
     let mut report = [0u8; 32768];
     let mut source = rt.stdin();
     let mut sink = rt.stdout();
-    let got = gather(&mut source, &mut script);
-    let n = within(got.length, &script);
-    if got.whole {
-        clean(&rt, &mut sink, &script[..n], &mut text, &mut report);
-    } else {
-        say(
+    match gather(&mut source, &mut script) {
+        Ok(length) => {
+            let n = within(length, &script);
+            clean(&rt, &mut sink, &script[..n], &mut text, &mut report);
+        }
+        Err(_) => say(
             &rt,
             "salvage: standard input could not be read to its end; nothing is written\n",
-        );
+        ),
     }
 }

@@ -5,7 +5,7 @@ use mathlib.Core.Path.{◌≡◌}
 use Rattle.salvage.proofs.gather.Given as goal
 
 abbrev pub invariant-loop-at : goal.invariant-loop-at
-invariant-loop-at g l = (l.at ≤ length l.buf) × (length l.buf ≡ length l.initial.buf)
+invariant-loop-at g l = l.at ≤ length l.buf
 
 abbrev pub decreases-loop-at : goal.decreases-loop-at
 decreases-loop-at g l = length l.buf - l.at
