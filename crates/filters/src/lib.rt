@@ -1,4 +1,4 @@
-// From light to shade, step 4: the filters, functions of nine signed values, and one function for all of them.
+// From light to shade, step 4: the filters, one function of nine signed values, whose parameter is the mode.
 #![tactic(auto)]
 
 ghost use Rattle.std.specs.Prelude.{◌≡◌, ◌/◌, ◌<◌, ◌≤◌, IsTrue, pos, nat_abs};

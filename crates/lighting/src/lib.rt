@@ -7,7 +7,8 @@ ghost use Rattle.lighting.specs.Aside.{Asked};
 ghost use Rattle.lighting.specs.Light.{adapted, exposed, turned, light_of, light_frame};
 
 // What the registers taken ask of every pixel, worked out once. Mode and kind are the numbers by which the tables of document 001 are laid out,
-// and with them `Taken`, `Edge` and `Row`: an enum would be turned from a number and back to one.
+// and with them `Taken`, `Edge` and `Row`: an enum would be turned from a number and back to one. That the quarters are at most 20 (`Sane`) is asked
+// where a filter needs it, and not of the type: `light_frame` takes any setting, and theorems speak of any.
 #[derive(Clone, Copy, PartialEq, Eq, Debug)]
 pub struct Setting {
     pub exposure: u16,

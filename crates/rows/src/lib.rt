@@ -35,7 +35,8 @@ fn pixel<const MODE: u8>(store: &[u8; 16384], quarters: u8, x: usize, row: usize
 }
 
 // A row of them. The mode is a constant of each instance, so that nothing is asked of it in a loop. Where bit 1 of it asks for W and E the columns at the
-// two edges stand apart, and those between them are 112 and 16, two of them done twice: multiples of 16, so that none is left over from a vector.
+// two edges stand apart, and those between them are 112 and 16, two of them done twice: multiples of 16, so that none is left over from a vector. The
+// loops go by the column, which is asked for and is where the value goes: after a zip with `iter_mut` a proof knows nothing of what was written.
 #[tactic(auto, using(laws::proofs::Filled::filled_end))]
 fn row_of<const MODE: u8>(store: &[u8; 16384], quarters: u8, row: usize, out: &mut [u8; 128])
     requires mode { IsTrue (has_filter MODE) }
