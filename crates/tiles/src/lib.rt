@@ -92,6 +92,7 @@ fn put_line(
     let mut low = [0u8; 16];
     let mut high = [0u8; 16];
     strips::shade_row(values, matrix, frame.regs, y + 8, &mut low, &mut high);
+    // an index, since the bytes stand apart: there is no slice of them to copy into
     for t in 0..16 {
         let o = at + pair_at(t, y);
         let p = o + 1;
