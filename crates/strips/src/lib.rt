@@ -72,8 +72,8 @@ fn add_column<R: Turned>(row: &R, b: usize, low: &mut [u8; 16], high: &mut [u8; 
     let w = 128u8 >> b;
     for t in 0..16 {
         let (l, h) = row.weigh(16 * b + t, w);
-        low[t] = low[t] + l;
-        high[t] = high[t] + h;
+        low[t] += l;
+        high[t] += h;
     }
 }
 
@@ -88,7 +88,7 @@ pub fn pack<R: Turned>(row: &R, low: &mut [u8; 16], high: &mut [u8; 16])
     }
 }
 
-// A row of values and the thresholds of its columns, which stand from `at` on.
+// A row of values, turned, and the matrix spread, in which the thresholds of a row stand from 128 * (row % 4) on.
 #[derive(Clone, Copy)]
 struct Shaded<'a> {
     values: &'a [u8; 128],
@@ -133,8 +133,8 @@ pub fn shade_row(
     let turned = turn(values);
     let shaded = Shaded {
         values: &turned,
-        matrix: matrix,
-        row: row,
+        matrix,
+        row,
     };
     pack(&shaded, low, high);
 }

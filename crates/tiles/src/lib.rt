@@ -141,11 +141,7 @@ pub fn put_pixels(
     requires asked { Asked set regs.now }
     ensures { ram.new ≡ pixels (byte_at store.now) regs.now from to ram.old }
 {
-    let frame = Frame {
-        store: store,
-        set: set,
-        regs: regs,
-    };
+    let frame = Frame { store, set, regs };
     let first = from.div_ceil(128);
     let end = to / 128;
     if first < end {
@@ -162,10 +158,6 @@ pub fn fill(store: &[u8; 16384], set: Setting, regs: &[u8; 54], out: &mut [u8; 3
     requires asked { Asked set regs.now }
     ensures { out.new ≡ picture_of (byte_at store.now) regs.now }
 {
-    let frame = Frame {
-        store: store,
-        set: set,
-        regs: regs,
-    };
+    let frame = Frame { store, set, regs };
     put_rows(out, 0, &frame, 0, 112);
 }
