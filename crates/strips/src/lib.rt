@@ -27,6 +27,7 @@ pub trait Turned {
 }
 
 // The two halves of a row, one from each by turns: a vector's own step. (`array::from_fn` was tried: it becomes no vector code, and takes six times as long.)
+#[tactic(auto, using(laws::proofs::Filled::filled_end))]
 fn interleave(a: &[u8; 128]) -> [u8; 128]
     ensures { result ≡ listed (λ p. get_or a.now (p % 2 * 64 + p / 2) 0) 128 }
 {
@@ -50,6 +51,7 @@ pub fn turn(values: &[u8; 128]) -> [u8; 128]
 
 // The matrix spread over the columns, turned: for each of its four rows the first thresholds of all 128, then the second, and then the third. What
 // stands at a column is that of each of the sixteen tiles.
+#[tactic(auto, using(laws::proofs::Filled::filled_end), unfolding(crate::specs::Aside::spread_of))]
 pub fn spread(regs: &[u8; 54], out: &mut [u8; 1536])
     ensures { out.new ≡ spread_of regs.now }
 {

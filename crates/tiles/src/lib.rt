@@ -33,6 +33,7 @@ struct Frame<'a> {
 }
 
 // `b` with its bit `bit` set to `v`.
+#[tactic(auto, using(laws::proofs::Masks::by_masks), unfolding(laws::specs::Bits::put_bit))]
 fn put_bit(b: u8, bit: u8, v: u8) -> u8
     requires { (bit < 8) × (v < 2) }
     ensures { result ≡ put_bit b bit v }
@@ -154,6 +155,7 @@ pub fn put_pixels(
 }
 
 // The picture afresh, of a store of lit values.
+#[tactic(auto, using(crate::proofs::Pairs::pairs_picture))]
 pub fn fill(store: &[u8; 16384], set: Setting, regs: &[u8; 54], out: &mut [u8; 3584])
     requires asked { Asked set regs.now }
     ensures { out.new ≡ picture_of (byte_at store.now) regs.now }
