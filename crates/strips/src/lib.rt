@@ -27,6 +27,7 @@ pub trait Turned {
 }
 
 // The two halves of a row, one from each by turns: a vector's own step. (`array::from_fn` was tried: it becomes no vector code, and takes six times as long.)
+#[tactic(auto, using(laws::proofs::Filled::filled_end))]
 fn interleave(a: &[u8; 128]) -> [u8; 128]
     ensures { result ≡ listed (λ p. get_or a.now (p % 2 * 64 + p / 2) 0) 128 }
 {
@@ -50,6 +51,7 @@ pub fn turn(values: &[u8; 128]) -> [u8; 128]
 
 // The matrix spread over the columns, turned: for each of its four rows the first thresholds of all 128, then the second, and then the third. What
 // stands at a column is that of each of the sixteen tiles.
+#[tactic(auto, using(laws::proofs::Filled::filled_end), unfolding(crate::specs::Aside::spread_of))]
 pub fn spread(regs: &[u8; 54], out: &mut [u8; 1536])
     ensures { out.new ≡ spread_of regs.now }
 {
@@ -72,8 +74,8 @@ fn add_column<R: Turned>(row: &R, b: usize, low: &mut [u8; 16], high: &mut [u8; 
     let w = 128u8 >> b;
     for t in 0..16 {
         let (l, h) = row.weigh(16 * b + t, w);
-        low[t] = low[t] + l;
-        high[t] = high[t] + h;
+        low[t] += l;
+        high[t] += h;
     }
 }
 
@@ -88,7 +90,7 @@ pub fn pack<R: Turned>(row: &R, low: &mut [u8; 16], high: &mut [u8; 16])
     }
 }
 
-// A row of values and the thresholds of its columns, which stand from `at` on.
+// A row of values, turned, and the matrix spread, in which the thresholds of a row stand from 128 * (row % 4) on.
 #[derive(Clone, Copy)]
 struct Shaded<'a> {
     values: &'a [u8; 128],
@@ -133,8 +135,8 @@ pub fn shade_row(
     let turned = turn(values);
     let shaded = Shaded {
         values: &turned,
-        matrix: matrix,
-        row: row,
+        matrix,
+        row,
     };
     pack(&shaded, low, high);
 }

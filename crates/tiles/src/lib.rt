@@ -21,7 +21,19 @@ pub const PICTURE_SIZE: usize = 3584;
 
 pub const PIXELS: usize = 14336;
 
+// A frame: a store of lit values, and the registers taken. `set` is what they ask.
+#[derive(Clone, Copy)]
+struct Frame<'a> {
+    store: &'a [u8; 16384],
+    set: Setting,
+    regs: &'a [u8; 54],
+    ghost asked: { Asked set regs.now },
+    // said, since behind a field a proof knows no array's length
+    ghost long: { length store.now ≡ 16384 },
+}
+
 // `b` with its bit `bit` set to `v`.
+#[tactic(auto, using(laws::proofs::Masks::by_masks), unfolding(laws::specs::Bits::put_bit))]
 fn put_bit(b: u8, bit: u8, v: u8) -> u8
     requires { (bit < 8) × (v < 2) }
     ensures { result ≡ put_bit b bit v }
@@ -39,18 +51,10 @@ pub fn pair_at(t: usize, y: usize) -> usize
 }
 
 // Puts the pixels from j to end, which stand in the same two bytes: these are read once, and stored once.
-fn put_part(
-    ram: &mut [u8],
-    store: &[u8; 16384],
-    set: Setting,
-    regs: &[u8; 54],
-    j: usize,
-    end: usize,
-)
+fn put_part(ram: &mut [u8], frame: &Frame, j: usize, end: usize)
     requires range { (j ≤ end) × (j < 14336) × (end ≤ 8 * (j / 8) + 8) }
     requires ram_len { 8192 ≤ length ram.old }
-    requires asked { Asked set regs.now }
-    ensures { ram.new ≡ pixels (byte_at store.now) regs.now j end ram.old }
+    ensures { ram.new ≡ pixels (byte_at frame.now.store.now) frame.now.regs.now j end ram.old }
 {
     let y = j / 128;
     let o = PICTURE + pair_at(j % 128 / 8, y);
@@ -59,7 +63,7 @@ fn put_part(
     let mut high = ram[p];
     for k in j..end {
         let x = k % 128;
-        let pixel = sensor::pixel_at(store, set, regs, x, y + 8);
+        let pixel = sensor::pixel_at(frame.store, frame.set, frame.regs, x, y + 8);
         let bit = (7 - x % 8) as u8;
         low = put_bit(low, bit, pixel.shade % 2);
         high = put_bit(high, bit, pixel.shade / 2);
@@ -68,30 +72,28 @@ fn put_part(
     ram[p] = high;
 }
 
-// Puts a row of the picture whose first byte is out[at], two bytes a tile. What is carried moves on by a row; `matrix` is that of `regs`, spread.
+// Puts a row of the picture whose first byte is out[at], two bytes a tile. What is carried moves on by a row; `matrix` is that of its registers, spread.
 // The row's values are made in `values`, which is lent so that it is made once.
 fn put_line(
     out: &mut [u8],
     at: usize,
-    store: &[u8; 16384],
-    set: Setting,
-    regs: &[u8; 54],
+    frame: &Frame,
     matrix: &[u8; 1536],
     y: usize,
     carried: &mut [u8; 128],
     values: &mut [u8; 128],
 )
     requires at_in_bounds { (at + 3584 ≤ length out.old) × (y < 112) }
-    requires matrix { matrix.now ≡ spread_of regs.now }
-    requires asked { Asked set regs.now }
-    requires carried { Carried (byte_at store.now) set (y + 8) carried.old }
-    ensures { (out.new ≡ put_pairs (byte_at store.now) regs.now at (16 * y) 16 out.old)
-        × Carried (byte_at store.now) set (y + 8 + 1) carried.new }
+    requires matrix { matrix.now ≡ spread_of frame.now.regs.now }
+    requires carried { Carried (byte_at frame.now.store.now) frame.now.set (y + 8) carried.old }
+    ensures { (out.new ≡ put_pairs (byte_at frame.now.store.now) frame.now.regs.now at (16 * y) 16 out.old)
+        × Carried (byte_at frame.now.store.now) frame.now.set (y + 8 + 1) carried.new }
 {
-    rows::next_row(store, set, y + 8, carried, values);
+    rows::next_row(frame.store, frame.set, y + 8, carried, values);
     let mut low = [0u8; 16];
     let mut high = [0u8; 16];
-    strips::shade_row(values, matrix, regs, y + 8, &mut low, &mut high);
+    strips::shade_row(values, matrix, frame.regs, y + 8, &mut low, &mut high);
+    // an index, since the bytes stand apart: there is no slice of them to copy into
     for t in 0..16 {
         let o = at + pair_at(t, y);
         let p = o + 1;
@@ -101,55 +103,28 @@ fn put_line(
 }
 
 // Puts as many rows of it, from one on.
-fn put_rows(
-    out: &mut [u8],
-    at: usize,
-    store: &[u8; 16384],
-    set: Setting,
-    regs: &[u8; 54],
-    first: usize,
-    count: usize,
-)
+fn put_rows(out: &mut [u8], at: usize, frame: &Frame, first: usize, count: usize)
     requires at_in_bounds { (at + 3584 ≤ length out.old) × (first < 112) × (first + count ≤ 112) }
-    requires asked { Asked set regs.now }
-    ensures { out.new ≡ put_pairs (byte_at store.now) regs.now at (16 * first) (16 * count) out.old }
+    ensures { out.new ≡ put_pairs (byte_at frame.now.store.now) frame.now.regs.now at (16 * first) (16 * count) out.old }
 {
     let mut matrix = [0u8; 1536];
-    strips::spread(regs, &mut matrix);
+    strips::spread(frame.regs, &mut matrix);
     let mut carried = [0u8; 128];
-    rows::first_row(store, set, first + 8, &mut carried);
+    rows::first_row(frame.store, frame.set, first + 8, &mut carried);
     let mut values = [0u8; 128];
     for y in first..first + count {
-        put_line(
-            out,
-            at,
-            store,
-            set,
-            regs,
-            &matrix,
-            y,
-            &mut carried,
-            &mut values,
-        );
+        put_line(out, at, frame, &matrix, y, &mut carried, &mut values);
     }
 }
 
 // Puts the pixels from..to, two bytes at a time.
-fn put_parts(
-    ram: &mut [u8],
-    store: &[u8; 16384],
-    set: Setting,
-    regs: &[u8; 54],
-    from: usize,
-    to: usize,
-)
+fn put_parts(ram: &mut [u8], frame: &Frame, from: usize, to: usize)
     requires range { (from ≤ to) × (to ≤ 14336) }
     requires ram_len { 8192 ≤ length ram.old }
-    requires asked { Asked set regs.now }
-    ensures { ram.new ≡ pixels (byte_at store.now) regs.now from to ram.old }
+    ensures { ram.new ≡ pixels (byte_at frame.now.store.now) frame.now.regs.now from to ram.old }
 {
     for n in from / 8..to.div_ceil(8) {
-        put_part(ram, store, set, regs, from.max(8 * n), to.min(8 * n + 8));
+        put_part(ram, frame, from.max(8 * n), to.min(8 * n + 8));
     }
 }
 
@@ -167,21 +142,24 @@ pub fn put_pixels(
     requires asked { Asked set regs.now }
     ensures { ram.new ≡ pixels (byte_at store.now) regs.now from to ram.old }
 {
+    let frame = Frame { store, set, regs };
     let first = from.div_ceil(128);
     let end = to / 128;
     if first < end {
-        put_parts(ram, store, set, regs, from, 128 * first);
-        put_rows(ram, PICTURE, store, set, regs, first, end - first);
-        put_parts(ram, store, set, regs, 128 * end, to);
+        put_parts(ram, &frame, from, 128 * first);
+        put_rows(ram, PICTURE, &frame, first, end - first);
+        put_parts(ram, &frame, 128 * end, to);
     } else if from < to {
-        put_parts(ram, store, set, regs, from, to);
+        put_parts(ram, &frame, from, to);
     }
 }
 
 // The picture afresh, of a store of lit values.
+#[tactic(auto, using(crate::proofs::Pairs::pairs_picture))]
 pub fn fill(store: &[u8; 16384], set: Setting, regs: &[u8; 54], out: &mut [u8; 3584])
     requires asked { Asked set regs.now }
     ensures { out.new ≡ picture_of (byte_at store.now) regs.now }
 {
-    put_rows(out, 0, store, set, regs, 0, 112);
+    let frame = Frame { store, set, regs };
+    put_rows(out, 0, &frame, 0, 112);
 }

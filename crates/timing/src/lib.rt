@@ -111,6 +111,7 @@ fn picture_from(regs: &[u8; 54]) -> Clocks
 fn done_by(first: Clocks, elapsed: Cycles) -> usize
     ensures { (result ≡ min (clocks elapsed.0 - first.0) 14336) × (result ≤ 14336) }
 {
+    // `as`, since Rust has no `From<u32>` for `usize`
     (elapsed.clocks().0.saturating_sub(first.0) as usize).min(tiles::PIXELS)
 }
 

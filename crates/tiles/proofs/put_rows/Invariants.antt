@@ -7,4 +7,4 @@ use Rattle.tiles.proofs.put_rows.Given as goal
 
 abbrev pub invariant-loop-y : goal.invariant-loop-y
 invariant-loop-y l =
-    Carried (byte_at l.store) l.set (l.y + 8) l.carried × (l.out ≡ put_pairs (byte_at l.store) l.regs l.at (16 * l.first) (16 * (l.y - l.first)) l.initial.out)
+    Carried (byte_at l.frame.store.now) l.frame.set (l.y + 8) l.carried × (l.out ≡ put_pairs (byte_at l.frame.store.now) l.frame.regs.now l.at (16 * l.first) (16 * (l.y - l.first)) l.initial.out)
