@@ -78,6 +78,9 @@ hex_stops line at i n l h =
     let e : n ≡ (i + 1) + (n - (i + 1)) = omega arith in
     ap (hex_part line at) e ∙ hex_fails line at (i + 1) (n - (i + 1)) (hex_more line at i ∙ simp (h, and-false))
 
+pub hex_joined : (line : List ℕ) (at n m : ℕ) → hex_part line at n ≡ true → hex_part line (at + n) m ≡ true → hex_part line at (n + m) ≡ true
+hex_joined line at n m p q = hex_parts line at n m ∙ simp (p, q)
+
 -- a part of digits is digits
 pub hex_within : (line : List ℕ) (n k m : ℕ) → hex_part line 0 n ≡ true → k + m ≤ n → hex_part line k m ≡ true
 hex_within line n k m h l =
