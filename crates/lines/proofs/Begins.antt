@@ -1,11 +1,11 @@
 -- The first two bytes of a line are its kind: laws of `frame_of` by the bytes themselves. Assumes nothing.
-use Rattle.std.proofs.Common.{◌≡◌, ℕ, zero, suc, ◌+◌, ◌-◌, ◌*◌, ◌<◌, ◌≤◌, Bool, true, false, List, length, get_or, sym, refl, ◌∙◌, arith, lt-ltb, ne_eqb, le-leb}
+use Rattle.std.proofs.Common.{◌≡◌, ℕ, zero, suc, ◌+◌, ◌-◌, ◌<◌, ◌≤◌, Bool, true, false, List, length, get_or, sym, refl, ◌∙◌, arith, lt-ltb, ne_eqb, le-leb}
 use Rattle.laws.proofs.Bools.{both_hold}
 use Rattle.laws.proofs.Order.{split}
 use Rattle.lines.specs.declared.line.Frame.TheVariants.{Malformed}
 use Rattle.lines.specs.Hex.{digit_byte}
 use Rattle.lines.specs.Line.{is_hex, worth, hex_part, number_at, spelled, frame_of}
-use Rattle.lines.proofs.Digits.{hex_more, hex_fails, number_more, number_zero, digit_within, digit_back}
+use Rattle.lines.proofs.Digits.{number_two, hex_more, hex_fails, digit_within, digit_back}
 use Rattle.lines.proofs.Frames.{wrong, bad, too_short_lem}
 
 -- a byte 30h to 39h is a digit, worth as much as it is over 30h
@@ -27,10 +27,6 @@ five (suc (suc (suc (suc zero)))) b l e n₀ n₁ n₂ n₃ n₄ = n₄ (omega a
 five (suc (suc (suc (suc (suc w))))) b l e n₀ n₁ n₂ n₃ n₄ = omega arith
 
 module _ (line : List ℕ) where
-  -- the number that the first two bytes spell
-  two : number_at line 0 2 ≡ worth (get_or line 0 0) * 16 + worth (get_or line 1 0)
-  two = omega (arith, number_zero line 0, number_more line 0 0, number_more line 0 1)
-
   -- `00` to `09` are digits that spell their kind
   pub kind_hex : get_or line 0 0 ≡ 0x30 → 0x30 ≤ get_or line 1 0 → get_or line 1 0 ≤ 0x39 → hex_part line 0 2 ≡ true
   unfolding hex_part
@@ -43,7 +39,7 @@ module _ (line : List ℕ) where
   kind_number e l h =
       let a = numeral (get_or line 0 0) 0 e (omega arith) in
       let b = numeral (get_or line 1 0) (get_or line 1 0 - 0x30) (omega arith) (omega arith) in
-      omega (arith, two, a.1, b.1)
+      omega (arith, number_two line 0, a.1, b.1)
 
   -- a line of another kind
   no_kind : 2 ≤ length line → (hex_part line 0 2 ≡ true → 4 < number_at line 0 2) → frame_of line ≡ Malformed
@@ -64,7 +60,7 @@ module _ (line : List ℕ) where
       no_kind l
       (λ h.
       split 0 (worth (get_or line 0 0))
-      (λ m. omega (arith, two))
+      (λ m. omega (arith, number_two line 0))
       (λ m. absurd (n (omega (arith, back (get_or line 0 0) (digit_within line 0 2 0 h (omega arith)) (omega arith))))))
 
   -- the second byte is none of 30h to 34h
@@ -73,7 +69,7 @@ module _ (line : List ℕ) where
       no_kind l
       (λ h.
       split 4 (worth (get_or line 1 0))
-      (λ m. omega (arith, two))
+      (λ m. omega (arith, number_two line 0))
       (λ m. absurd (five (worth (get_or line 1 0)) (get_or line 1 0) m (back (get_or line 1 0) (digit_within line 0 2 1 h (omega arith)) (omega arith)) n₀ n₁ n₂ n₃ n₄)))
 
 -- what the first two bytes tell, for the function that looks at them

@@ -78,6 +78,9 @@ hex_stops line at i n l h =
     let e : n ≡ (i + 1) + (n - (i + 1)) = omega arith in
     ap (hex_part line at) e ∙ hex_fails line at (i + 1) (n - (i + 1)) (hex_more line at i ∙ simp (h, and-false))
 
+pub hex_joined : (line : List ℕ) (at n m : ℕ) → hex_part line at n ≡ true → hex_part line (at + n) m ≡ true → hex_part line at (n + m) ≡ true
+hex_joined line at n m p q = hex_parts line at n m ∙ simp (p, q)
+
 -- a part of digits is digits
 pub hex_within : (line : List ℕ) (n k m : ℕ) → hex_part line 0 n ≡ true → k + m ≤ n → hex_part line k m ≡ true
 hex_within line n k m h l =
@@ -96,10 +99,16 @@ unfolding number_at
 number_zero line at = refl
 
 -- two digits, each by its place
-pub two_number : (line : List ℕ) (at a b : ℕ) → a ≡ worth (get_or line at 0) → b ≡ worth (get_or line (at + 1) 0) → a * 16 + b ≡ number_at line at 2
-two_number line at a b ea eb =
+pub number_two : (line : List ℕ) (at : ℕ) → number_at line at 2 ≡ worth (get_or line at 0) * 16 + worth (get_or line (at + 1) 0)
+number_two line at =
     let first = ap (λ (n : ℕ). worth (get_or line n 0)) (add-zero at) in
     omega (arith, number_zero line at, number_more line at 0, number_more line at 1, first)
+
+pub first_hex : (line : List ℕ) (at : ℕ) → hex_part line at 2 ≡ true → is_hex (get_or line at 0) ≡ true
+first_hex line at h = rw add-zero at (digit_within line at 2 0 h (omega arith))
+
+pub second_hex : (line : List ℕ) (at : ℕ) → hex_part line at 2 ≡ true → is_hex (get_or line (at + 1) 0) ≡ true
+second_hex line at h = digit_within line at 2 1 h (omega arith)
 
 -- a part of a line, cut out of it: its digits are the line's
 cut_at : (line : List ℕ) (at n i : ℕ) → i < n → get_or (take n (drop at line)) (0 + i) 0 ≡ get_or line (at + i) 0
@@ -153,3 +162,5 @@ pub two_small : (line : List ℕ) (at : ℕ) → hex_part line at 2 ≡ true →
 two_small line at h = number_small line at 2 h
 
 pub ruleset parts = (six, eight, ten, row, four_small, two_small)
+
+pub ruleset pair = (number_two, first_hex, second_hex, worth_small, two_small)

@@ -9,7 +9,7 @@ use Rattle.lines.specs.declared.line.Frame.TheVariants.{Reset, Read, Write, Tick
 use Rattle.lines.specs.Hex.{digit_byte}
 use Rattle.lines.specs.Line.{is_hex, worth, hex_part, number_at, is_line, spelled, frame_of}
 use Rattle.lines.specs.Kinds.{all_hex, of_kind, says_reset, says_read, says_write, says_tick, says_row, said_by, is_kind, is_malformed}
-use Rattle.lines.proofs.Digits.{worth_small, digit_back, hex_parts, hex_stops}
+use Rattle.lines.proofs.Digits.{number_two, worth_small, digit_back, hex_parts, hex_stops}
 use Rattle.lines.proofs.Frames.{good, bad}
 use Rattle.lines.proofs.Spelt.{digit_worth}
 
@@ -81,12 +81,6 @@ row_digits c d p q =
     (λ m. lt-leb (worth c * 16 + worth d) 0x7F (omega arith) ∙ sym (lt-leb c 0x37 (omega arith))))
 
 -- ---- a line of digits
-
-number_two : (line : List ℕ) (at : ℕ) → number_at line at 2 ≡ worth (get_or line at 0) * 16 + worth (get_or line (at + 1) 0)
-unfolding number_at
-number_two line at =
-    let z : at + 0 ≡ at = omega arith in
-    ap (λ k. (0 * 16 + worth (get_or line k 0)) * 16 + worth (get_or line (at + 1) 0)) z ∙ omega arith
 
 length_of : (digit n : ℕ) (line : List ℕ) → of_kind digit n line ≡ true → length line ≡ n
 unfolding of_kind

@@ -163,6 +163,7 @@ pub fn frame_of(line: &[u8]) -> Frame
 }
 
 // The byte that two digits of a line spell.
+#[tactic(auto, using(crate::proofs::Digits::pair))]
 pub fn byte_at(line: &[u8], at: usize) -> u8
     requires { (at + 2 ≤ length line.now) × (hex_part line.now at 2 ≡ true) }
     ensures { result ≡ number_at line.now at 2 }

@@ -30,7 +30,7 @@ impl<'a> LineReader<'a> {
         bytes
     }
 
-    // The number that the next N digits spell: at most eight. The reader stands after them then.
+    // The number that the next N digits spell: at most eight. The reader stands after them then. Inline, so that its place is in no memory.
     #[inline]
     #[tactic(auto, using(crate::proofs::Digits::of_cut))]
     pub(crate) fn number<const N: usize>(&mut self) -> Option<u32>
