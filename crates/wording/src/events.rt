@@ -1,4 +1,5 @@
 // Events, put into a lent buffer. Each function returns the place after the event's LF.
+// What an event tells is a parameter each, and no struct: the definition of its text, which is the contract, takes the same in this order.
 ghost use Rattle.std.specs.Prelude.{◌≡◌, ◌++◌, ◌+◌, ◌≤◌, length};
 ghost use Rattle.laws.specs.Pick.{pick};
 ghost use Rattle.lines.specs.Hex.{hex_text};

@@ -39,6 +39,7 @@ fn put_decimal(out: &mut [u8], at: usize, digits: usize, v: u64)
     ensures { out.new ≡ placed out.old at (digits_in digits v) }
 {
     let mut rest = v;
+    // By index: of what is written through `iter_mut` and `rev` a proof knows nothing.
     for k in (0..digits).rev() {
         out[at + k] = b'0' + (rest % 10) as u8;
         rest /= 10;
