@@ -1,4 +1,5 @@
 // Events, put into a lent buffer. Each function returns the place after the event's LF.
+// What an event tells is a parameter each, and no struct: the definition of its text, which is the contract, takes the same in this order.
 ghost use Rattle.std.specs.Prelude.{◌≡◌, ◌++◌, ◌+◌, ◌≤◌, length};
 ghost use Rattle.laws.specs.Pick.{pick};
 ghost use Rattle.lines.specs.Hex.{hex_text};
@@ -17,12 +18,12 @@ fn put_opening(out: &mut [u8], at: usize, line: u64, word: &[u8], serial: u16) -
     ensures { Put out.old at (begun word.now line serial) (length word.now + 45) out.new result }
 {
     let a = put_count(out, at, b"line ", line);
-    put_count(out, a, word, serial as u64)
+    put_count(out, a, word, u64::from(serial))
 }
 
 // The registers taken.
-fn put_registers(out: &mut [u8], at: usize, registers: &[u8]) -> usize
-    requires { (at + 119 ≤ length out.old) × (length registers.now ≡ 54) }
+fn put_registers(out: &mut [u8], at: usize, registers: &[u8; 54]) -> usize
+    requires { at + 119 ≤ length out.old }
     ensures { Put out.old at (registers_word ++ row_hex registers.now) 119 out.new result }
 {
     let a = put_word(out, at, b" registers ");
@@ -31,8 +32,8 @@ fn put_registers(out: &mut [u8], at: usize, registers: &[u8]) -> usize
 }
 
 // What a start takes, from the checksum of the image on.
-fn put_taken(out: &mut [u8], at: usize, image: u32, row: u64, registers: &[u8]) -> usize
-    requires { (at + 160 ≤ length out.old) × (length registers.now ≡ 54) }
+fn put_taken(out: &mut [u8], at: usize, image: u32, row: u64, registers: &[u8; 54]) -> usize
+    requires { at + 160 ≤ length out.old }
     ensures { Put out.old at (taken_text image row registers.now) 160 out.new result }
 {
     let a = put_code(out, at, b" image ", 8, image);
@@ -54,6 +55,7 @@ pub fn put_start(
     requires { (at + 256 ≤ length out.old) × (length registers.now ≡ 54) }
     ensures { Put out.old at (start_text line serial image row registers.now) 256 out.new result }
 {
+    let registers: &[u8; 54] = registers.try_into().unwrap();
     let a = put_opening(out, at, line, b" event start serial ", serial);
     put_taken(out, a, image, row, registers)
 }
@@ -132,7 +134,7 @@ pub fn put_landed(
     let a = put_opening(out, at, line, b" event write serial ", serial);
     let b = put_bank(out, a, inside, place / 8192);
     let c = put_code(out, b, b" offset ", 4, place % 8192);
-    let d = put_code(out, c, b" byte ", 2, byte as u32);
+    let d = put_code(out, c, b" byte ", 2, u32::from(byte));
     put_word(out, d, b"\n")
 }
 

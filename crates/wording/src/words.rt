@@ -1,4 +1,6 @@
 // Words, decimal numbers and digits, put into a lent buffer. Each function returns the place after what it put.
+// The buffer and the place stay two parameters. As one value with a `&mut [u8]` in it they were tried: its contracts are longer, and what
+// a lent slice keeps of itself, its length, has to be proved of that field after each word.
 ghost use Rattle.std.specs.Prelude.{◌≡◌, ◌++◌, ◌+◌, ◌≤◌, length};
 ghost use Rattle.lines.specs.Hex.{hex_text, placed};
 ghost use Rattle.wording.specs.Words.{decimal};
@@ -17,6 +19,7 @@ pub(crate) fn put_word(out: &mut [u8], at: usize, word: &[u8]) -> usize
 }
 
 // How many decimal digits a number has, of so many at most.
+#[tactic(auto, using(crate::proofs::Puts::count_none, crate::proofs::Puts::count_last))]
 fn count_digits(most: usize, v: u64) -> usize
     ensures { (result ≡ count_in most v) × (result ≤ most) }
 {
@@ -36,6 +39,7 @@ fn put_decimal(out: &mut [u8], at: usize, digits: usize, v: u64)
     ensures { out.new ≡ placed out.old at (digits_in digits v) }
 {
     let mut rest = v;
+    // By index: of what is written through `iter_mut` and `rev` a proof knows nothing.
     for k in (0..digits).rev() {
         out[at + k] = b'0' + (rest % 10) as u8;
         rest /= 10;
@@ -53,6 +57,7 @@ fn put_number(out: &mut [u8], at: usize, n: u64) -> usize
 }
 
 // Puts a value in so many hexadecimal digits.
+#[tactic(auto, using(lines::proofs::Placed::length_hex))]
 fn put_hex(out: &mut [u8], at: usize, digits: usize, value: u32) -> usize
     requires { at + digits ≤ length out.old }
     ensures { Put out.old at (hex_text digits value) digits out.new result }

@@ -6,11 +6,8 @@ use native.Mathlib.Omega.{arith}
 use lib.ListN.{get_or}
 use Rattle.laws.specs.Iter.{iter}
 use Rattle.crc.specs.Crc.{bit_step}
-use Rattle.crc.proofs.Ahead.{bits_none, bits_next, first_none, first_more, first_to}
+use Rattle.crc.proofs.Ahead.{bits_next, first_more}
 use Rattle.crc.proofs.fill.Goals as goal
-
-pub loop-table-init : goal.loop-table-init
-loop-table-init c = (bits_none, first_none)
 
 pub loop-table-preserved : goal.loop-table-preserved
 loop-table-preserved c =
@@ -21,6 +18,3 @@ loop-table-preserved c =
       λ j h. bits_next (8 * i) (8 * (i + 1)) j _ _ (omega arith) (l.invariant.0 j h) (moved j h),
       first_more l.invariant.1 (omega arith) (c.fill_table.ensures i (λ j h. bits_next (8 * i) (8 + 8 * i) j _ _ (omega arith) (l.invariant.0 j h) (moved j h))),
     )
-
-pub returns : goal.returns
-returns c = first_to c.loop-table.invariant.1 (omega arith)

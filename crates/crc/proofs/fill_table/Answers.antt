@@ -2,7 +2,7 @@
 use mathlib.Core.Path.{refl, ◌∙◌}
 use native.Mathlib.Omega.{arith}
 use lib.ListN.{length-set}
-use Rattle.crc.proofs.Ahead.{entry_none, entry_sum, built_more, built_to, built_none, weight, twice}
+use Rattle.crc.proofs.Ahead.{entry_none, entry_sum, built_more, built_to, built_none, weight}
 use Rattle.crc.proofs.fill_table.Goals as goal
 
 pub loop-x-init : goal.loop-x-init
@@ -19,9 +19,3 @@ loop-b-preserved c =
           let v = entry_sum k o.x-index o.w l.b _ _ o.invariant.1 (omega arith) (before.same l.b (omega arith)) (h o.x-index (omega arith)) in
           built_to (built_more _ before (omega (arith, l.invariant.1, weight o.x-index (omega arith))) v) (omega arith),
     )
-
-pub loop-x-preserved : goal.loop-x-preserved
-loop-x-preserved c =
-    let o = c.loop-x in
-    let l = c.loop-b in
-    (omega arith, omega (arith, twice o.x-index), l.invariant.1, λ k h. built_to (l.invariant.2 k h) (omega arith))

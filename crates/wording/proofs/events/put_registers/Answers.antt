@@ -7,7 +7,7 @@ pub returns : goal.returns
 returns c =
     put_within
     (put_then c.put_word-a.ensures
-    (λ _. put_row_lem _ _ _ 108 (omega (arith, c.requires.1)) c.put_bytes.ensures)
-    (omega (arith, c.requires.0)))
+    (λ _. put_row_lem _ _ _ 108 (omega (arith, c.told-registers)) c.put_bytes.ensures)
+    (omega (arith, c.requires)))
     119
     (omega arith)

@@ -10,6 +10,6 @@ returns c =
     (put_then c.put_count-b.ensures
     (put_then c.put_registers-c.ensures
     (λ _. c.put_word.ensures)))
-    (omega (arith, c.requires.0)))
+    (omega (arith, c.requires)))
     160
     (omega arith)
