@@ -3,8 +3,6 @@ use mathlib.Core.Path.{◌≡◌, refl, sym, ap, ◌∙◌}
 use mathlib.Core.Bool.{Bool, true, false, not, ◌&&◌, and-true}
 use mathlib.Core.List.{List}
 use Prim.Native.Nat.{ℕ, zero, suc, ◌+◌, ◌%◌}
-use native.Mathlib.Nat.{add-zero}
-use native.Mathlib.Omega.{arith}
 use lib.Dec.{eqb, ltb}
 use lib.ListN.{length}
 use borrow.Author.Tests.{eq-eqb, not-true}
@@ -30,7 +28,6 @@ use Rattle.lines.specs.declared.line.Frame.{Frame}
 use Rattle.lines.specs.declared.line.Frame.TheVariants.{Reset, Read, Write, Tick, Row, Malformed}
 use Rattle.lines.specs.Line.{frame_of}
 use Rattle.lines.specs.Hex.{placed}
-use Rattle.lines.proofs.Placed.{placed_none}
 use Rattle.session.specs.declared.answer.Answer.{Answer}
 use Rattle.session.specs.Answer.{number_said}
 use Rattle.session.specs.Session.{World, row_image, frame_step, step_of}

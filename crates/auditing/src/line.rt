@@ -31,6 +31,7 @@ fn is_row(frame: Frame) -> bool
 }
 
 // Counts a line and its event, and puts its event's text at a place of a buffer.
+#[tactic(auto, unfolding(crate::specs::Line::line_counted))]
 fn entered(
     book: &mut [u64],
     step: Step,
@@ -59,6 +60,7 @@ fn entered(
 }
 
 // Carries out a line of a recording, counts it, and puts its event at a place of a buffer; returns the place after it.
+#[tactic(auto, using(calls::proofs::Bytes::long))]
 pub fn line_audited(
     book: &mut [u64],
     state: &mut [u8],

@@ -7,6 +7,7 @@ use events::book::{CAPTURES, DROPPED, ENDED, LINES, MALFORMED, REFUSED, WHOLE};
 use wording::events::put_summary;
 
 // The summary, at the start of a buffer; returns how many bytes are written.
+#[tactic(auto, using(layout::proofs::Stores::as_flag))]
 pub fn summary_put(book: &[u64], held: bool, out: &mut [u8]) -> usize
     requires { (length book.now ≡ 13) × (512 ≤ length out.old) }
     ensures { Put out.old 0 (summary_of book.now held) 400 out.new result }

@@ -4,23 +4,20 @@ use mathlib.Core.Bool.{Bool, true, false, not, ◌&&◌}
 use mathlib.Core.List.{List, [], ◌++◌, append-nil}
 use Prim.Native.Nat.{ℕ, ◌%◌}
 use native.Mathlib.Omega.{arith}
-use lib.Dec.{eqb, ltb}
+use lib.Dec.{eqb}
 use lib.ListN.{length, get_or, drop, drop_of_length-le}
 use lib.Seq.{get_or-take, get_or-drop}
 use borrow.Author.Tests.{le-ltb}
 use Rattle.laws.specs.Pick.{pick}
 use Rattle.timing.specs.Lent.{ram_allowed}
-use Rattle.controller.specs.declared.Controller.{Controller}
 use Rattle.controller.specs.State.{started}
 use Rattle.controller.specs.Table.{lowest}
-use Rattle.capture.specs.Capture.{running}
-use Rattle.cartridge.specs.Bus.{registers_on, ram_writable}
-use Rattle.layout.specs.Layout.{decoded, four_at, two_at}
+use Rattle.cartridge.specs.Bus.{registers_on}
+use Rattle.layout.specs.Layout.{decoded}
 use Rattle.shades.specs.Shades.{exported}
 use Rattle.plates.specs.Grey.{plate_of, export_rows, export_means}
 use Rattle.plates.proofs.Exports.{export_refuses}
-use Rattle.events.specs.declared.sight.Sight.{Sight}
-use Rattle.events.specs.Aside.{takes_writes, sight_of}
+use Rattle.events.specs.Aside.{takes_writes}
 
 -- register 0 has bit 0 set
 pub busy_at : (s : List ℕ) → started (decoded s).registers ≡ eqb (get_or s 13 0 % 2) 1

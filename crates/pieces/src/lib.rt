@@ -90,6 +90,7 @@ fn last_audited(
 }
 
 // Where a capture is held, that it is.
+#[tactic(auto, using(events::proofs::Puts::put_nothing, events::proofs::Puts::put_same, crate::proofs::Pieces::held_said_lem, crate::proofs::Pieces::none_said))]
 fn held_put(book: &[u64], state: &[u8], out: &mut [u8], at: usize) -> usize
     requires { (is_record state.now ≡ true) × (length book.now ≡ 13) × (at + 256 ≤ length out.old) }
     ensures { Put out.old at (held_saying (noted book.now lines) (decoded state.now)) 256 out.new result }

@@ -30,6 +30,7 @@ fn first_lf(bytes: &[u8]) -> Option<usize>
 
 // Where the line that begins at a place of a piece ends: at its LF, or at the piece's end. Eight bytes are looked at in a row, as long as there are so many:
 // so the compiler unrolls the loop, which `position` alone does not let it (docs/DECISIONS.md, the end of a line).
+#[tactic(auto, using(crate::proofs::Standing::passed_one))]
 pub fn line_end(piece: &[u8], from: usize) -> usize
     requires { from ≤ length piece.now }
     ensures { Ends piece.now from result }
@@ -57,6 +58,7 @@ pub fn is_malformed(frame: Frame) -> bool
 }
 
 // Carries out and answers a line of n bytes. It is left where no LF stands after them or they say no frame.
+#[tactic(auto, using(crate::proofs::Standing::moves_none, crate::proofs::Standing::moves_line, crate::proofs::Standing::ends_there))]
 fn line_of(
     state: &mut [u8],
     rom: &[u8],
@@ -90,6 +92,7 @@ fn line_of(
 }
 
 // Carries out and answers a line that is a read, a write or a tick by its second byte.
+#[tactic(auto, using(crate::proofs::Standing::moves_none))]
 fn short_line(
     state: &mut [u8],
     rom: &[u8],
@@ -116,6 +119,7 @@ fn short_line(
 }
 
 // Carries out and answers such lines one after the other, up to one that is none or for which the piece or the buffer may have no room.
+#[tactic(auto, using(crate::proofs::Standing::moves_none, crate::proofs::Standing::moves_on))]
 pub fn short_lines(
     state: &mut [u8],
     rom: &[u8],

@@ -1,16 +1,14 @@
 -- What holds while whole lines are played, line by line. Assumes nothing.
 use mathlib.Core.Path.{◌≡◌, refl, sym, ap, subst, ◌∙◌}
-use mathlib.Core.Bool.{Bool, true, false, ◌&&◌}
+use mathlib.Core.Bool.{true}
 use mathlib.Core.List.{List, [], ◌∷◌, ◌++◌, append_assoc, append-nil}
 use Prim.Native.Nat.{ℕ, zero, suc, ◌+◌, ◌-◌, ◌<◌, ◌≤◌}
 use native.Mathlib.Numerals.{add-one}
 use native.Mathlib.Nat.{zero-add}
 use native.Mathlib.Omega.{arith}
-use lib.Dec.{ltb, leb}
 use lib.ListN.{length, get_or, take, drop, take-append-drop, length-append, length-drop}
 use lib.Seq.{drop-cons, take-suc, get_or-drop, length-take-le, take-append-add}
-use borrow.Author.Tests.{eq-eqb, ne_eqb, eqb-true, lt-ltb, le-leb, ltb-true, leb-true}
-use Rattle.laws.proofs.Bools.{not_both, both_left, both_right}
+use borrow.Author.Tests.{eq-eqb, ne_eqb, eqb-true}
 use Rattle.laws.proofs.Order.{split}
 use Rattle.lines.specs.Hex.{placed}
 use Rattle.lines.proofs.Placed.{placed_none, placed_next}
@@ -21,7 +19,7 @@ use Rattle.auditing.specs.Line.{Audited, audit_of, audit_all}
 use Rattle.auditing.specs.Aside.{Audits}
 use Rattle.audited.proofs.Sessions.{world_append, book_append}
 use Rattle.audited.proofs.Loop.{no_end, ended_line}
-use Rattle.sweeping.specs.Aside.{swept_by, begins, Sweeps, Stops, Strides}
+use Rattle.sweeping.specs.Aside.{swept_by, begins, Sweeps, Strides}
 
 -- what lines say after lines
 pub text_append : (rom : List ℕ) (xs : List (List ℕ)) (w : World) (b : List ℕ) (ys : List (List ℕ))

@@ -13,6 +13,7 @@ use short::is_malformed;
 const LONGEST: usize = 11;
 
 // Plays a line of n bytes. It is left where no LF stands after them or they say no frame.
+#[tactic(auto, using(crate::proofs::Turns::strides_none))]
 fn line_of(
     book: &mut [u64],
     state: &mut [u8],
@@ -63,6 +64,7 @@ fn line_of(
 }
 
 // Plays a line that is a read, a write or a tick by its second byte.
+#[tactic(auto, using(crate::proofs::Turns::strides_none))]
 fn short_line(
     book: &mut [u64],
     state: &mut [u8],
@@ -95,6 +97,7 @@ fn short_line(
 }
 
 // Plays such lines one after the other, up to one that is none or for which the piece or the buffer may have no room.
+#[tactic(auto, using(crate::proofs::Turns::strides_none, crate::proofs::Turns::strides_on))]
 pub(crate) fn short_lines(
     book: &mut [u64],
     state: &mut [u8],

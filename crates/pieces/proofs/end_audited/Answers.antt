@@ -1,19 +1,9 @@
 -- `pieces::end_audited` meets its contract: the last line, and what is held after it. Assumes nothing.
 use mathlib.Core.Path.{◌∙◌}
-use native.Mathlib.Omega.{arith}
 use Rattle.layout.specs.Layout.{decoded}
 use Rattle.session.specs.Session.{world}
 use Rattle.pieces.proofs.Pieces.{end_is, end_noted}
 use Rattle.pieces.proofs.end_audited.Goals as goal
-
-pub last_audited-at-requires : goal.last_audited-at-requires
-last_audited-at-requires c = c.requires
-
-pub held_put-end-requires : goal.held_put-end-requires
-held_put-end-requires c = (c.last_audited-at.ensures.1, c.last_audited-at.auto.book ∙ c.requires.1, omega (arith, c.last_audited-at.ensures.0.few, c.last_audited-at.auto.out, c.requires.3))
-
-pub note-requires : goal.note-requires
-note-requires c = c.last_audited-at.auto.book ∙ c.requires.1
 
 pub returns : goal.returns
 returns c =

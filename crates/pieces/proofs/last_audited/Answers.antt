@@ -1,7 +1,5 @@
 -- `pieces::last_audited` meets its contract: whether a line has begun. Assumes nothing.
 use mathlib.Core.Path.{sym, ◌∙◌}
-use native.Mathlib.Omega.{arith}
-use lib.Seq.{length-take-le}
 use Rattle.layout.specs.Layout.{decoded}
 use Rattle.session.specs.Session.{world}
 use Rattle.pieces.proofs.Pieces.{last_none, last_some}
@@ -9,12 +7,6 @@ use Rattle.pieces.proofs.last_audited.Goals as goal
 
 pub returns-then-held-eq0 : goal.returns-then-held-eq0
 returns-then-held-eq0 c = (last_none _ _ _ _ _ (sym c.held_in-held.ensures.0 ∙ c.if-held-eq0.true), c.requires.0)
-
-pub slice_bounds-line_audited-end : goal.slice_bounds-line_audited-end
-slice_bounds-line_audited-end c = sym (length-take-le _ _ (omega (arith, c.held_in-held.ensures.1, c.requires.2)))
-
-pub line_audited-requires : goal.line_audited-requires
-line_audited-requires c = (c.requires.0, c.requires.1, omega (arith, c.requires.3))
 
 pub returns : goal.returns
 returns c =

@@ -1,23 +1,9 @@
 -- `pieces::piece_audited` meets its contract: a line ends in the piece or is held. Assumes nothing.
-use mathlib.Core.Path.{sym, ◌∙◌}
 use native.Mathlib.Omega.{arith}
-use lib.Seq.{length-take-le}
 use Rattle.layout.specs.Layout.{decoded}
 use Rattle.session.specs.Session.{world}
 use Rattle.pieces.proofs.Pieces.{piece_ended, piece_kept}
 use Rattle.pieces.proofs.piece_audited.Goals as goal
-
-pub slice_bounds-hold-end : goal.slice_bounds-hold-end
-slice_bounds-hold-end c = sym (length-take-le _ _ c.line_end-end.ensures.inside)
-
-pub slice_bounds-line_audited-end-then-end-piece : goal.slice_bounds-line_audited-end-then-end-piece
-slice_bounds-line_audited-end-then-end-piece c = sym (length-take-le _ _ (omega (arith, c.hold-n.ensures.2, c.hold-n.auto.line, c.requires.2)))
-
-pub line_audited-at-requires : goal.line_audited-at-requires
-line_audited-at-requires c = (c.requires.0, c.requires.1, omega (arith, c.requires.3))
-
-pub note-requires : goal.note-requires
-note-requires c = c.line_audited-at.auto.book ∙ c.requires.1
 
 pub returns-then-end-piece : goal.returns-then-end-piece
 returns-then-end-piece c =
@@ -31,9 +17,6 @@ returns-then-end-piece c =
           (world (decoded d.new.state) d.new.ram d.new.store d.new.image) d.new.book d.new.out d.result d.ensures.0 m.new.book m.ensures,
       d.ensures.1,
     )
-
-pub note-requires-2 : goal.note-requires-2
-note-requires-2 c = c.requires.1
 
 pub returns : goal.returns
 returns c =

@@ -5,14 +5,6 @@ use Rattle.sweeping.proofs.Turns.{sweeps_none}
 use Rattle.sweeping.proofs.lines_audited.Goals.{else-book-eq13-via-then-book-eq13+else-is_record, else-book-eq13-via-else-book-eq13}
 use Rattle.sweeping.proofs.lines_audited.Goals as goal
 
-pub sweep-requires : goal.sweep-requires
-sweep-requires c = (sym c.is_record.ensures ∙ c.if-is_record.true, c.if-book-eq13.true)
-
-pub returns-then-is_record : goal.returns-then-is_record
-returns-then-is_record c =
-    let d = c.sweep in
-    (d.ensures.0, record { played = λ _ _. (d.ensures.1, d.ensures.2); left = λ no. absurd (no (sym c.is_record.ensures ∙ c.if-is_record.true) c.if-book-eq13.true) })
-
 pub returns : goal.returns
 returns c = (
   sweeps_none _ _ _ _ _,

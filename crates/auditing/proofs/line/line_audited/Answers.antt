@@ -1,22 +1,12 @@
 -- `auditing::line::line_audited` meets its contract: what is seen of the two records is what is seen of the call. Assumes nothing.
-use mathlib.Core.Path.{◌≡◌, refl, sym, ◌∙◌}
-use native.Mathlib.Omega.{arith}
+use mathlib.Core.Path.{◌≡◌, sym, ◌∙◌}
 use lib.ListN.{length}
 use Rattle.layout.specs.Layout.{decoded}
 use Rattle.session.specs.Session.{world}
-use Rattle.calls.proofs.Bytes.{long, part_at, part_long, taken_at}
+use Rattle.calls.proofs.Bytes.{part_at, part_long, taken_at}
 use Rattle.events.specs.declared.event.Step.{Step}
 use Rattle.auditing.proofs.Lines.{stepped, end_allowed, line_audits}
 use Rattle.auditing.proofs.line.line_audited.Goals as goal
-
-pub carry_out-answer-requires : goal.carry_out-answer-requires
-carry_out-answer-requires c = (c.requires.0, c.frame_of-frame.ensures)
-
-pub slice_bounds-entered-count : goal.slice_bounds-entered-count
-slice_bounds-entered-count c = omega (arith, long _ c.carry_out-answer.ensures.1)
-
-pub slice_bounds-entered-start : goal.slice_bounds-entered-start
-slice_bounds-entered-start c = omega (arith, long _ c.carry_out-answer.ensures.1)
 
 pub entered-requires : goal.entered-requires
 entered-requires c =

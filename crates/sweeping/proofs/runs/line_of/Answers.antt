@@ -4,14 +4,8 @@ use Prim.Native.Nat.{◌+◌}
 use native.Mathlib.Omega.{arith}
 use Rattle.lines.specs.Kinds.{is_malformed}
 use Rattle.short.proofs.Standing.{ends_there}
-use Rattle.sweeping.proofs.Turns.{strides_none, strides_line}
+use Rattle.sweeping.proofs.Turns.{strides_line}
 use Rattle.sweeping.proofs.runs.line_of.Goals as goal
-
-pub returns-then-piece-end-ne10 : goal.returns-then-piece-end-ne10
-returns-then-piece-end-ne10 c = (strides_none _ _ _ _ _ _ _ (omega (arith, c.requires.2)) (omega (arith, c.requires.3)), c.requires.0)
-
-pub returns-then-is_malformed : goal.returns-then-is_malformed
-returns-then-is_malformed c = (strides_none _ _ _ _ _ _ _ (omega (arith, c.requires.2)) (omega (arith, c.requires.3)), c.requires.0)
 
 pub returns : goal.returns
 returns c =
