@@ -142,37 +142,39 @@ pub fn read(state: Controller, rom: &[u8], ram: &[u8], address: u16) -> ReadDone
 
 // A write below 8000: RAM enable, ROM bank, select.
 #[tactic(auto, unfolding(crate::specs::Bus::control_written, crate::specs::Bus::with_bank, crate::specs::Bus::with_select))]
-fn control_write(mut state: Controller, address: u16, value: u8) -> Controller
+fn control_write(state: Controller, address: u16, value: u8) -> Controller
     ensures { result ≡ control_written state address value }
 {
-    if address < 0x2000 {
-        return enable_write(state, value);
+    match address {
+        0x0000..=0x1FFF => enable_write(state, value),
+        0x2000..=0x3FFF => Controller {
+            bank: value % 64,
+            ..state
+        },
+        0x4000..=0x5FFF => Controller {
+            select: value % 32,
+            ..state
+        },
+        _ => state,
     }
-    if address < 0x4000 {
-        state.bank = value % 64;
-        return state;
-    }
-    if address < 0x6000 {
-        state.select = value % 32;
-        return state;
-    }
-    state
 }
 
 // 0A enables, 00 disables RAM writing; other values change nothing.
 #[tactic(auto, unfolding(crate::specs::Bus::with_enabled))]
-fn enable_write(mut state: Controller, value: u8) -> Controller
+fn enable_write(state: Controller, value: u8) -> Controller
     ensures { result ≡ enable state value }
 {
-    if value == 0x0A {
-        state.enabled = true;
-        return state;
+    match value {
+        0x0A => Controller {
+            enabled: true,
+            ..state
+        },
+        0x00 => Controller {
+            enabled: false,
+            ..state
+        },
+        _ => state,
     }
-    if value == 0x00 {
-        state.enabled = false;
-        return state;
-    }
-    state
 }
 
 // Whether a write of register 0 is a start: bit 0 set, no capture held.
