@@ -1,5 +1,7 @@
 // Reads, writes and ticks over the bytes of a record: each looks at the bytes that it asks for where they stand, and changes those alone that it must.
 // Only a start and the end of a capture, which change half of the record, have it read and written whole.
+// `cartridge` does the same over a record. One generic function over both is no plainer: a trait would have a reader, a writer and their laws for each field,
+// where a law here is one byte that is changed.
 #![tactic(auto, using(layout::proofs::Inverse::record_long))]
 
 ghost use Rattle.std.specs.Prelude.{◌≡◌, true, [], ◌<◌, ◌≤◌, length};
@@ -37,6 +39,7 @@ fn taken(state: &[u8]) -> &[u8; 54]
 }
 
 // Whether the record can exist.
+#[tactic(auto, using(layout::proofs::Inverse::record_long, crate::proofs::Bytes::exists_at))]
 fn exists(state: &[u8]) -> bool
     requires { is_record state.now ≡ true }
     ensures { result ≡ can_exist (decoded state.now) }
@@ -82,6 +85,7 @@ pub fn read(state: &[u8], rom: &[u8], ram: &[u8], address: u16) -> Result<u8, Re
 }
 
 // A write below 8000: RAM enable, where 0A enables, 00 disables and other values change nothing; ROM bank; select.
+#[tactic(auto, using(layout::proofs::Inverse::record_long, crate::proofs::Bytes::same, crate::proofs::Bytes::enabled_set, crate::proofs::Bytes::disabled_set, crate::proofs::Bytes::bank_set, crate::proofs::Bytes::select_set), unfolding(cartridge::specs::Bus::control_written))]
 fn control_write(state: &mut [u8], address: u16, value: u8)
     requires { (is_record state.old ≡ true) × (Bytes state.old) }
     ensures { state.new ≡ encoded (control_written (decoded state.old) address value) }
@@ -120,6 +124,7 @@ fn first_write(state: &mut [u8], store: &mut [u8], image: &[u8; 16384], value: u
 }
 
 // A write of a register: 1 to 53 are always writable, 54 to 127 ignore writes.
+#[tactic(auto, using(layout::proofs::Inverse::record_long, crate::proofs::Bytes::same, crate::proofs::Bytes::register_set), unfolding(cartridge::specs::Bus::register_written, cartridge::specs::Bus::store_written))]
 fn register_write(state: &mut [u8], store: &mut [u8], image: &[u8; 16384], number: usize, value: u8)
     requires { (is_record state.old ≡ true) × (length store.old ≡ 16384) }
     ensures { (state.new ≡ encoded (register_written (decoded state.old) number value))
@@ -135,6 +140,7 @@ fn register_write(state: &mut [u8], store: &mut [u8], image: &[u8; 16384], numbe
 }
 
 // A write at an address on the cartridge.
+#[tactic(auto, using(layout::proofs::Inverse::record_long, crate::proofs::Bytes::same, crate::proofs::Bytes::on_at, crate::proofs::Bytes::written_at_lem), unfolding(cartridge::specs::Bus::byte_written))]
 fn byte_write(
     state: &mut [u8],
     ram: &mut [u8],
@@ -196,6 +202,7 @@ pub fn write(
 }
 
 // Puts what some cycles of a running capture leave: its end, or its elapsed cycles.
+#[tactic(auto, using(layout::proofs::Inverse::record_long, crate::proofs::Bytes::elapsed_put))]
 fn leave(state: &mut [u8], passed: Passed)
     requires { is_record state.old ≡ true }
     ensures { state.new ≡ encoded (after passed.elapsed (decoded state.old)) }
@@ -217,6 +224,7 @@ pub fn judge_tick(state: &[u8], ram: &[u8], store: &[u8]) -> Result<(), Refusal>
 }
 
 // Whether a capture is running: cycles while none is change nothing.
+#[tactic(auto, using(layout::proofs::Inverse::record_long, crate::proofs::Bytes::running_at))]
 pub fn runs(state: &[u8]) -> bool
     requires { is_record state.now ≡ true }
     ensures { result ≡ running (decoded state.now) }

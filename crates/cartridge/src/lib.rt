@@ -20,6 +20,9 @@ use controller::{Controller, ReadDone, Refusal, WriteDone};
 use lighting::{Setting, light_frame};
 use timing::{Cycles, bank_place};
 
+// The functions over plain numbers take just what they look at (write enable, ROM bank, select, register 0), which differs from one to the next, so that
+// no struct of it is plainer. What a call is lent stays its parameters: behind the fields of a struct of lent `&mut` each theorem would name a field.
+
 // Bit 4 of select selects the registers.
 pub fn registers_on(select: u8) -> bool
     ensures { result ≡ registers_on (facing false 0 select 0) }
@@ -45,6 +48,7 @@ fn register_read(first: u8, address: u16) -> u8
 }
 
 // Where the byte of an address stands in RAM, in the bank of select.
+#[tactic(auto, using(timing::proofs::Lent::ram_inside, timing::proofs::Lent::ram_lent, timing::proofs::Lent::banks))]
 fn ram_place(select: u8, ram: &[u8], address: u16) -> usize
     requires { ram_allowed (length ram.now) ≡ true }
     ensures { (result ≡ ram_place (facing false 0 select 0) ram.now address) × (result < length ram.now) }
@@ -65,6 +69,7 @@ fn ram_read(select: u8, first: u8, ram: &[u8], address: u16) -> u8
 }
 
 // A ROM read: bank 0 below 4000, the ROM bank above.
+#[tactic(auto, using(timing::proofs::Lent::rom_inside, timing::proofs::Lent::rom_lent, timing::proofs::Lent::banks), unfolding(crate::specs::Bus::rom_read))]
 fn rom_read(bank: u8, rom: &[u8], address: u16) -> u8
     requires { (rom_allowed (length rom.now) ≡ true) × (address < 0x8000) }
     ensures { result ≡ rom_read (facing false bank 0 0) rom.now address }
@@ -78,6 +83,7 @@ fn rom_read(bank: u8, rom: &[u8], address: u16) -> u8
 }
 
 // The byte at an address on the cartridge, by ROM bank, select and register 0.
+#[tactic(auto, unfolding(crate::specs::Bus::byte_read, crate::specs::Bus::rom_read))]
 pub fn byte_read(bank: u8, select: u8, first: u8, rom: &[u8], ram: &[u8], address: u16) -> u8
     requires { (rom_allowed (length rom.now) ≡ true) × (ram_allowed (length ram.now) ≡ true) }
     ensures { result ≡ byte_read (facing false bank select first) rom.now ram.now address }
@@ -135,39 +141,44 @@ pub fn read(state: Controller, rom: &[u8], ram: &[u8], address: u16) -> ReadDone
 }
 
 // A write below 8000: RAM enable, ROM bank, select.
-fn control_write(mut state: Controller, address: u16, value: u8) -> Controller
+#[tactic(auto, unfolding(crate::specs::Bus::control_written, crate::specs::Bus::with_bank, crate::specs::Bus::with_select))]
+fn control_write(state: Controller, address: u16, value: u8) -> Controller
     ensures { result ≡ control_written state address value }
 {
-    if address < 0x2000 {
-        return enable_write(state, value);
+    match address {
+        0x0000..=0x1FFF => enable_write(state, value),
+        0x2000..=0x3FFF => Controller {
+            bank: value % 64,
+            ..state
+        },
+        0x4000..=0x5FFF => Controller {
+            select: value % 32,
+            ..state
+        },
+        _ => state,
     }
-    if address < 0x4000 {
-        state.bank = value % 64;
-        return state;
-    }
-    if address < 0x6000 {
-        state.select = value % 32;
-        return state;
-    }
-    state
 }
 
 // 0A enables, 00 disables RAM writing; other values change nothing.
-fn enable_write(mut state: Controller, value: u8) -> Controller
+#[tactic(auto, unfolding(crate::specs::Bus::with_enabled))]
+fn enable_write(state: Controller, value: u8) -> Controller
     ensures { result ≡ enable state value }
 {
-    if value == 0x0A {
-        state.enabled = true;
-        return state;
+    match value {
+        0x0A => Controller {
+            enabled: true,
+            ..state
+        },
+        0x00 => Controller {
+            enabled: false,
+            ..state
+        },
+        _ => state,
     }
-    if value == 0x00 {
-        state.enabled = false;
-        return state;
-    }
-    state
 }
 
 // Whether a write of register 0 is a start: bit 0 set, no capture held.
+#[tactic(auto, unfolding(crate::specs::Bus::is_start))]
 pub fn is_start(held: bool, value: u8) -> bool
     ensures { (c : Controller) → c.held ≡ held → result ≡ is_start c value }
 {
@@ -175,6 +186,7 @@ pub fn is_start(held: bool, value: u8) -> bool
 }
 
 // A start: the registers are taken, the new register 0 with them; one more has started.
+#[tactic(auto, unfolding(capture::specs::Capture::begun))]
 fn begin(mut state: Controller, value: u8) -> Controller
     ensures { result ≡ begun state value }
 {
@@ -187,6 +199,7 @@ fn begin(mut state: Controller, value: u8) -> Controller
 }
 
 // A write of register 0. A start lights the image into the store, by the registers just taken.
+#[tactic(auto, unfolding(crate::specs::Bus::capture_written, crate::specs::Bus::store_written, crate::specs::Bus::with_register, capture::specs::Capture::begun))]
 pub fn capture_write(
     mut state: Controller,
     store: &mut [u8],
@@ -207,6 +220,7 @@ pub fn capture_write(
 }
 
 // A write of a register: 1 to 53 are always writable, 54 to 127 ignore writes.
+#[tactic(auto, unfolding(crate::specs::Bus::register_written, crate::specs::Bus::store_written, crate::specs::Bus::with_register))]
 fn register_write(
     mut state: Controller,
     store: &mut [u8],
@@ -229,6 +243,7 @@ fn register_write(
 }
 
 // A write to RAM: ignored while register 0 has bit 0 set, and unless enabled.
+#[tactic(auto, unfolding(crate::specs::Bus::ram_written))]
 pub fn ram_write(enabled: bool, select: u8, first: u8, ram: &mut [u8], address: u16, value: u8)
     requires { ram_allowed (length ram.old) ≡ true }
     ensures { ram.new ≡ ram_written (facing enabled 0 select first) ram.old address value }
@@ -244,6 +259,7 @@ pub fn ram_write(enabled: bool, select: u8, first: u8, ram: &mut [u8], address: 
 }
 
 // A write at an address on the cartridge.
+#[tactic(auto, unfolding(crate::specs::Bus::byte_written, crate::specs::Bus::ram_written))]
 fn byte_write(
     state: Controller,
     ram: &mut [u8],
