@@ -22,10 +22,7 @@ fn same_row(plate: &[u8; 3584], picture: &[u8; 3584], y: usize) -> bool
     for t in 0..16 {
         let low = at + 16 * t;
         let high = low + 1;
-        if plate[low] != picture[low] {
-            return false;
-        }
-        if plate[high] != picture[high] {
+        if plate[low] != picture[low] || plate[high] != picture[high] {
             return false;
         }
     }
@@ -37,10 +34,7 @@ fn judge_row(plate: &[u8; 3584], picture: &[u8; 3584], y: usize) -> u8
     requires { y < 112 }
     ensures { (result ≡ row_judged plate.now picture.now y) × (result < 2) }
 {
-    if same_row(plate, picture, y) {
-        return 1;
-    }
-    0
+    u8::from(same_row(plate, picture, y))
 }
 
 // All rows judged, and how many are equal.
@@ -50,6 +44,7 @@ fn judge_rows(plate: &[u8; 3584], picture: &[u8; 3584], rows: &mut [u8]) -> u32
     ensures value { result ≡ rows_equal plate.now picture.now 112 }
 {
     let mut equal: u32 = 0;
+    // No plainer: after an adapter of `iter_mut` a proof knows nothing of what was written.
     for y in 0..ROWS {
         let row = judge_row(plate, picture, y);
         rows[y] = row;

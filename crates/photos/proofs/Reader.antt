@@ -1,14 +1,20 @@
 -- A header read from the left: what each byte comes to, and three bytes, and two. Assumes nothing.
 use mathlib.Core.Path.{◌≡◌, refl, sym, ap, ◌∙◌}
 use mathlib.Core.Bool.{Bool, true, false, false≢true}
-use mathlib.Core.List.{List}
+use mathlib.Core.List.{List, [], ◌∷◌}
 use Prim.Native.Nat.{ℕ, zero, suc, ◌+◌, ◌<◌, ◌≤◌}
 use native.Mathlib.Numerals.{add-one}
+use native.Mathlib.Nat.{add-zero}
 use native.Mathlib.Omega.{arith}
-use lib.ListN.{length, get_or, drop}
+use lib.ListN.{length, get_or, take, drop, length-drop}
+use lib.Pointwise.{pointwise}
+use Rattle.std.specs.Bool.{Decides}
+use Rattle.std.proofs.lemmas.Bool.Decides.{Decides-eqb}
+use Rattle.std.proofs.lemmas.Slice.Eq.{starts_is}
+use Rattle.std.proofs.lemmas.List.Prefix.{front_fits, at_reads, at_from_reads}
 use lib.Seq.{drop-cons, drop-length}
 use lib.Dec.{eqb}
-use borrow.Author.Tests.{eqb-true, eqb-false, eq-eqb, ne_eqb}
+use borrow.Author.Tests.{eq-eqb, ne_eqb}
 use Rattle.laws.proofs.Order.{split}
 use Rattle.photos.specs.Header.{is_white, is_end, parts}
 use Rattle.photos.specs.Aside.{Left, left, moved, finished, reads, from, goes, is_header, Next, Given, Has, Begins}
@@ -185,30 +191,46 @@ module _ (text : List ℕ) where
   last_by true i e l = last_right i l (sym e)
   last_by false i e l = last_white i l (sym e)
 
+  -- whether given bytes stand at a place, as `starts_with` tells it
+  stands : (i : ℕ) (bytes : List ℕ) (r : Bool) → i ≤ length text → r ≡ pointwise eqb bytes (take (length bytes) (drop i text))
+      → Decides r ((i + length bytes ≤ length text) × ((k : ℕ) → k < length bytes → at (i + k) ≡ get_or bytes k 0))
+  stands i bytes r inside e =
+      let s = starts_is Decides-eqb (drop i text) bytes r e in (
+        λ y. (omega (arith, front_fits (drop i text) bytes _ (s.0 y), length-drop i text), at_reads 0 text bytes i _ (s.0 y)),
+        λ h. s.1 _ (at_from_reads 0 text bytes i h.0 h.1),
+      )
+
   -- what two and three bytes are asked for
-  pub has_not : (i a b c : ℕ) → Next text i → (i + 3 ≤ length text → at i ≡ a → at (i + 1) ≡ b → at (i + 2) ≡ c → ⊥) → Has text i a b c false
-  has_not i a b c next e = record {
-    inside = λ z. absurd (false≢true z);
-    yes = λ z. absurd (false≢true z);
-    no = λ _ n given. three_fail i n a b c next given e;
-  }
+  pub has_by : (i : ℕ) (bytes : List ℕ) (r : Bool) → Next text i → length bytes ≡ 3 → r ≡ pointwise eqb bytes (take (length bytes) (drop i text))
+      → Has text i (get_or bytes 0 0) (get_or bytes 1 0) (get_or bytes 2 0) r
+  has_by i bytes r next three e =
+      let s = stands i bytes r next.inside e in
+      record {
+        inside = λ y. rw three at (s.0 y).0;
+        yes = λ y n given.
+            three_right i n _ _ _ next given (rw three at (s.0 y).0) (rw add-zero at ((s.0 y).1 0 (omega arith))) ((s.0 y).1 1 (omega arith)) ((s.0 y).1 2 (omega arith));
+        no = λ no n given. three_fail i n _ _ _ next given (λ l a b c. false≢true (sym no ∙ s.1 (rw three l, all_three a b c)));
+      }
+    where
+      all_three : at i ≡ get_or bytes 0 0 → at (i + 1) ≡ get_or bytes 1 0 → at (i + 2) ≡ get_or bytes 2 0 → (k : ℕ) → k < length bytes → at (i + k) ≡ get_or bytes k 0
+      all_three a b c zero h = rw add-zero a
+      all_three a b c (suc zero) h = b
+      all_three a b c (suc (suc zero)) h = c
+      all_three a b c (suc (suc (suc k))) h = absurd (omega arith)
 
-  pub has_last : (i a b c : ℕ) → Next text i → i + 3 ≤ length text → at i ≡ a → at (i + 1) ≡ b → Has text i a b c (eqb (at (i + 2)) c)
-  has_last i a b c next l e f = record {
-    inside = λ _. l;
-    yes = λ z n given. three_right i n a b c next given l e f (eqb-true (at (i + 2)) c z);
-    no = λ z n given. three_fail i n a b c next given (λ _ _ _ q. eqb-false (at (i + 2)) c z q);
-  }
-
-  pub begins_not : (2 ≤ length text → at 0 ≡ 0x50 → at 1 ≡ 0x36 → ⊥) → Begins text false
-  begins_not e = record { inside = λ z. absurd (false≢true z); yes = λ z. absurd (false≢true z); no = λ _. two_fail e }
-
-  pub begins_last : 2 ≤ length text → at 0 ≡ 0x50 → Begins text (eqb (at 1) 0x36)
-  begins_last l e = record {
-    inside = λ _. l;
-    yes = λ z. two_right l e (eqb-true (at 1) 0x36 z);
-    no = λ z. two_fail (λ _ _ q. eqb-false (at 1) 0x36 z q);
-  }
+  pub begins_by : (r : Bool) → r ≡ pointwise eqb (0x50 ∷ 0x36 ∷ []) (take 2 text) → Begins text r
+  begins_by r e =
+      let s = stands 0 (0x50 ∷ 0x36 ∷ []) r (omega arith) e in
+      record {
+        inside = λ y. (s.0 y).0;
+        yes = λ y. two_right (s.0 y).0 ((s.0 y).1 0 (omega arith)) ((s.0 y).1 1 (omega arith));
+        no = λ no. two_fail (λ l a b. false≢true (sym no ∙ s.1 (l, both a b)));
+      }
+    where
+      both : at 0 ≡ 0x50 → at 1 ≡ 0x36 → (k : ℕ) → k < 2 → at (0 + k) ≡ get_or (0x50 ∷ 0x36 ∷ []) k 0
+      both a b zero h = a
+      both a b (suc zero) h = b
+      both a b (suc (suc k)) h = absurd (omega arith)
 
   -- a gap ends at the end of the text
   pub next_end : Next text (length text)

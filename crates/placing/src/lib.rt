@@ -21,12 +21,7 @@ pub fn begins(file: &[u8], head: &[u8]) -> bool
     requires { length head.now ≤ length file.now }
     ensures { result ≡ each (λ k. eqb (get_or file.now k 0) (get_or head.now k 0)) (length head.now) }
 {
-    for k in 0..head.len() {
-        if file[k] != head[k] {
-            return false;
-        }
-    }
-    true
+    file.starts_with(head)
 }
 
 // Whether a file begins with the header.
@@ -50,8 +45,8 @@ fn only_greys(pixels: &[u8]) -> bool
     ensures { result ≡ only_greys pixels.now }
 {
     let mut all = true;
-    for k in 0..tiles::PIXELS {
-        all = all & is_grey(pixels[k]);
+    for v in pixels {
+        all &= is_grey(*v);
     }
     all
 }
@@ -60,35 +55,22 @@ fn only_greys(pixels: &[u8]) -> bool
 fn is_plate(file: &[u8]) -> bool
     ensures { result ≡ is_plate file.now }
 {
-    if file.len() != FILE {
-        return false;
-    }
-    if !has_header(file) {
-        return false;
-    }
-    only_greys(&file[15..FILE])
+    file.len() == FILE && has_header(file) && only_greys(&file[15..FILE])
 }
 
 // What a grey adds to a byte: a bit of its shade is set where that bit of the grey is not.
 fn weigh(grey: u8, bit: u8, weight: u8) -> u8
     ensures { result ≡ unset bit grey * weight }
 {
-    if grey & bit == 0 {
-        return weight;
-    }
-    0
+    if grey & bit == 0 { weight } else { 0 }
 }
 
 // A row of pixels, from a place on.
-fn row_of(pixels: &[u8], at: usize) -> [u8; 128]
-    requires { (at + 128 ≤ length pixels.now) × (at < 14336) }
-    ensures { result ≡ listed (λ x. get_or pixels.now (at + x) 0) 128 }
+fn row_of(pixels: &[u8], at: usize) -> &[u8; 128]
+    requires { at + 128 ≤ length pixels.now }
+    ensures { result.now ≡ listed (λ x. get_or pixels.now (at + x) 0) 128 }
 {
-    let mut out = [0u8; 128];
-    for x in 0..128 {
-        out[x] = pixels[at + x];
-    }
-    out
+    pixels[at..at + 128].try_into().unwrap()
 }
 
 // Adds the bits of one column more, the b-th of each of sixteen tiles, to the bytes of those before it: w is their weight. The columns are turned, as
@@ -99,10 +81,11 @@ fn add_column(turned: &[u8; 128], b: usize, w: u8, low: &mut [u8; 16], high: &mu
     ensures { (low.new ≡ listed (unset_bits 1 turned.now (b + 1)) 16)
         × (high.new ≡ listed (unset_bits 2 turned.now (b + 1)) 16) }
 {
+    // No plainer, here and where the area is put: after a zip with `iter_mut` a proof knows nothing of what was written.
     for t in 0..16 {
         let v = turned[16 * b + t];
-        low[t] = low[t] + weigh(v, 1, w);
-        high[t] = high[t] + weigh(v, 2, w);
+        low[t] += weigh(v, 1, w);
+        high[t] += weigh(v, 2, w);
     }
 }
 
@@ -120,19 +103,15 @@ fn pack(pixels: &[u8], at: usize) -> Sixteen
     ensures { (result.low ≡ listed (λ t. lows_at pixels.now (at + 8 * t)) 16)
         × (result.high ≡ listed (λ t. highs_at pixels.now (at + 8 * t)) 16) }
 {
-    let row = row_of(pixels, at);
-    let turned = strips::turn(&row);
+    let turned = strips::turn(row_of(pixels, at));
     let mut low = [0u8; 16];
     let mut high = [0u8; 16];
     let mut w = 128u8;
     for b in 0..8 {
         add_column(&turned, b, w, &mut low, &mut high);
-        w = w / 2;
+        w /= 2;
     }
-    Sixteen {
-        low: low,
-        high: high,
-    }
+    Sixteen { low, high }
 }
 
 // The area's bytes, row by row of the picture.
@@ -142,9 +121,7 @@ fn put_area(pixels: &[u8], area: &mut [u8])
     ensures { area.new ≡ placed_area pixels.now }
 {
     for y in 0..112 {
-        let row = pack(pixels, 128 * y);
-        let low = row.low;
-        let high = row.high;
+        let Sixteen { low, high } = pack(pixels, 128 * y);
         for t in 0..16 {
             let o = tiles::pair_at(t, y);
             let p = o + 1;

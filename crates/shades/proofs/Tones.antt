@@ -2,7 +2,7 @@
 use mathlib.Core.Path.{◌≡◌, refl, ap, ap₂, ◌∙◌}
 use mathlib.Core.Bool.{Bool, true, false}
 use mathlib.Core.List.{List, [], ◌∷◌}
-use Prim.Native.Nat.{ℕ, zero, suc, ◌+◌, ◌-◌, ◌*◌, ◌/◌, ◌%◌, ◌<◌, ◌≤◌}
+use Prim.Native.Nat.{ℕ, zero, suc, ◌^◌, ◌+◌, ◌-◌, ◌*◌, ◌/◌, ◌%◌, ◌<◌, ◌≤◌}
 use native.Mathlib.Nat.{mul-le-mul_left, mul-le-mul_right}
 use native.Mathlib.Omega.{arith}
 use lib.Dec.{T, eqb, eqb→eq}
@@ -107,18 +107,30 @@ weight w bit p l e t = record {
   adds = λ b h. eqb→eq (bits_of (w + b)) (bits_of b + bit) (at (λ b x. eqb (bits_of (w + b)) (bits_of b + bit)) (none w) t b (omega (arith, e)));
 }
 
-pub weights_of : Weight 1 0x100000000000000 × Weight 2 0x1000000000000 × Weight 4 0x10000000000 × Weight 8 0x100000000 × Weight 16 0x1000000 × Weight 32 0x10000 × Weight 64 0x100 × Weight 128 1
+-- a bit more is twice as many bytes
+pub power : (k : ℕ) → k < 8 → (1 * 2 ^ k % 18446744073709551616 ≡ 2 ^ k) × (2 * (1 * 2 ^ k % 18446744073709551616) ≡ 2 ^ (k + 1))
+power zero h = (refl, refl)
+power (suc zero) h = (refl, refl)
+power (suc (suc zero)) h = (refl, refl)
+power (suc (suc (suc zero))) h = (refl, refl)
+power (suc (suc (suc (suc zero)))) h = (refl, refl)
+power (suc (suc (suc (suc (suc zero))))) h = (refl, refl)
+power (suc (suc (suc (suc (suc (suc zero)))))) h = (refl, refl)
+power (suc (suc (suc (suc (suc (suc (suc zero))))))) h = (refl, refl)
+power (suc (suc (suc (suc (suc (suc (suc (suc k)))))))) h = absurd (omega arith)
+
+-- each byte with one bit
+pub weight_at : (k : ℕ) → k < 8 → Weight (1 * 2 ^ k % 18446744073709551616) (0x100000000000000 / 2 ^ (8 * k))
 unfolding none bits_of eight_of
-weights_of = (
-  weight 1 0x100000000000000 (omega arith) (omega arith) refl tt,
-  weight 2 0x1000000000000 (omega arith) (omega arith) refl tt,
-  weight 4 0x10000000000 (omega arith) (omega arith) refl tt,
-  weight 8 0x100000000 (omega arith) (omega arith) refl tt,
-  weight 16 0x1000000 (omega arith) (omega arith) refl tt,
-  weight 32 0x10000 (omega arith) (omega arith) refl tt,
-  weight 64 0x100 (omega arith) (omega arith) refl tt,
-  weight 128 1 (omega arith) (omega arith) refl tt,
-)
+weight_at zero h = weight 1 0x100000000000000 (omega arith) (omega arith) refl tt
+weight_at (suc zero) h = weight 2 0x1000000000000 (omega arith) (omega arith) refl tt
+weight_at (suc (suc zero)) h = weight 4 0x10000000000 (omega arith) (omega arith) refl tt
+weight_at (suc (suc (suc zero))) h = weight 8 0x100000000 (omega arith) (omega arith) refl tt
+weight_at (suc (suc (suc (suc zero)))) h = weight 16 0x1000000 (omega arith) (omega arith) refl tt
+weight_at (suc (suc (suc (suc (suc zero))))) h = weight 32 0x10000 (omega arith) (omega arith) refl tt
+weight_at (suc (suc (suc (suc (suc (suc zero)))))) h = weight 64 0x100 (omega arith) (omega arith) refl tt
+weight_at (suc (suc (suc (suc (suc (suc (suc zero))))))) h = weight 128 1 (omega arith) (omega arith) refl tt
+weight_at (suc (suc (suc (suc (suc (suc (suc (suc k)))))))) h = absurd (omega arith)
 
 -- ---- eight pixels
 

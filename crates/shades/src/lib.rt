@@ -9,8 +9,8 @@ ghost use Rattle.controller.specs.Table.{lowest};
 ghost use Rattle.shades.specs.Shades.{shade_nth, output_number, output_value, exported, shades_rows, shades_means};
 ghost use Rattle.shades.specs.Aside.{Built, Weight, Low, Eight, put_eight, tone_nth};
 
-use controller::judge::{no_ram, no_room};
 use controller::Refusal;
+use controller::judge::{no_ram, no_room};
 
 // The bytes from w to twice w, where w has one bit: each adds what that bit is to a byte below w.
 fn double(t: &mut [u64; 256], step: u8, w: usize, bit: u64)
@@ -18,6 +18,7 @@ fn double(t: &mut [u64; 256], step: u8, w: usize, bit: u64)
     ensures { Built step (2 * w) t.new }
 {
     let add = step as u64 * bit;
+    // No plainer: what is written is read from the same table.
     for b in 0..w {
         t[w + b] = t[b] + add;
     }
@@ -29,14 +30,9 @@ fn fill(t: &mut [u64; 256], step: u8)
     ensures { Built step 256 t.new }
 {
     t[0] = 0;
-    double(t, step, 1, 0x100000000000000);
-    double(t, step, 2, 0x1000000000000);
-    double(t, step, 4, 0x10000000000);
-    double(t, step, 8, 0x100000000);
-    double(t, step, 16, 0x1000000);
-    double(t, step, 32, 0x10000);
-    double(t, step, 64, 0x100);
-    double(t, step, 128, 1);
+    for k in 0..8u32 {
+        double(t, step, 1 << k, 0x100000000000000 >> (8 * k));
+    }
 }
 
 // A number's eight bytes from a place on, the lowest first: the compiler makes one store of them.
@@ -44,24 +40,14 @@ fn put_eight(out: &mut [u8], at: usize, v: u64)
     requires { at + 8 ≤ length out.old }
     ensures { out.new ≡ put_eight out.old at v }
 {
-    out[at] = (v % 256) as u8;
-    out[at + 1] = (v / 0x100 % 256) as u8;
-    out[at + 2] = (v / 0x10000 % 256) as u8;
-    out[at + 3] = (v / 0x1000000 % 256) as u8;
-    out[at + 4] = (v / 0x100000000 % 256) as u8;
-    out[at + 5] = (v / 0x10000000000 % 256) as u8;
-    out[at + 6] = (v / 0x1000000000000 % 256) as u8;
-    out[at + 7] = (v / 0x100000000000000 % 256) as u8;
+    out[at..at + 8].copy_from_slice(&v.to_le_bytes());
 }
 
 // Eight pixels, or the negative of them.
 fn turn(v: u64, negative: bool) -> u64
     ensures { result ≡ pick negative (0xFFFFFFFFFFFFFFFF - v) v }
 {
-    if negative {
-        return 0xFFFFFFFFFFFFFFFF - v;
-    }
-    v
+    if negative { u64::MAX - v } else { v }
 }
 
 // Eight pixels of row y, from column 8 * x on, by a table of what each byte's bits are.

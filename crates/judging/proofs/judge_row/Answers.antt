@@ -1,13 +1,17 @@
 -- `judging::judge_row` meets its contract: the test is the definition's. Assumes nothing.
-use mathlib.Core.Path.{sym, ◌∙◌}
+use mathlib.Core.Path.{◌≡◌}
+use mathlib.Core.Bool.{Bool, true, false}
+use Prim.Native.Nat.{ℕ, ◌<◌}
 use native.Mathlib.Omega.{arith}
+use mir.Val.{bool_byte}
+use Rattle.laws.specs.Pick.{pick}
 use Rattle.judging.specs.Judging.{row_judged}
 use Rattle.judging.proofs.judge_row.Goals as goal
 
-pub returns-then-same_row : goal.returns-then-same_row
-unfolding row_judged
-returns-then-same_row c = (rw (sym c.same_row.ensures ∙ c.if-same_row.true), omega arith)
+judged : (same : Bool) (n : ℕ) → n ≡ bool_byte same → (n ≡ pick same 1 0) × (n < 2)
+judged true n e = (e, omega arith)
+judged false n e = (e, omega arith)
 
 pub returns : goal.returns
 unfolding row_judged
-returns c = (rw (sym c.same_row.ensures ∙ c.if-same_row.false), omega arith)
+returns c = rw (← c.same_row.ensures) (judged _ _ c.from.ensures)

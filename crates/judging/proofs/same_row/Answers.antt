@@ -4,6 +4,7 @@ use native.Mathlib.Omega.{arith}
 use Rattle.placing.proofs.Each.{each_none}
 use Rattle.judging.proofs.Same.{differs, same_tile, same_end}
 use Rattle.judging.proofs.same_row.Goals as goal
+use Rattle.judging.proofs.same_row.Goals.{then-plate-low-via-then-plate-low, then-plate-low-via-else-plate-low+then-plate-high}
 
 pub loop-t-init : goal.loop-t-init
 loop-t-init c = (omega arith, each_none _)
@@ -11,12 +12,10 @@ loop-t-init c = (omega arith, each_none _)
 pub returns-then-plate-low : goal.returns-then-plate-low
 returns-then-plate-low c =
     let l = c.loop-t in
-    differs _ _ _ (2 * l.t) _ (omega arith) (omega arith) c.if-plate-low.true
-
-pub returns-then-plate-high : goal.returns-then-plate-high
-returns-then-plate-high c =
-    let l = c.loop-t in
-    differs _ _ _ (2 * l.t + 1) _ (omega arith) (omega arith) c.if-plate-high.true
+    elim c.then-plate-low.branch [
+      | then-plate-low-via-then-plate-low w ↦ differs _ _ _ (2 * l.t) _ (omega arith) (omega arith) w.if-plate-low.true
+      | then-plate-low-via-else-plate-low+then-plate-high w ↦ differs _ _ _ (2 * l.t + 1) _ (omega arith) (omega arith) w.if-plate-high.true
+    ]
 
 pub loop-t-preserved : goal.loop-t-preserved
 loop-t-preserved c =

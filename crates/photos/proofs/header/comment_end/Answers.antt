@@ -6,9 +6,6 @@ use lib.ListN.{length}
 use Rattle.photos.proofs.Reader.{comment_over, comment_on, short}
 use Rattle.photos.proofs.header.comment_end.Goals as goal
 
-pub loop-i-init : goal.loop-i-init
-loop-i-init c = (omega arith, omega arith, λ n k. refl)
-
 pub returns-then-is_end : goal.returns-then-is_end
 returns-then-is_end c =
     let l = c.loop-i in
@@ -28,4 +25,4 @@ returns c =
     let l = c.loop-i in
     let text = c.args.text.now in
     let e : l.i ≡ length text = omega arith in
-    (omega arith, omega arith, λ n k. l.invariant.2 n k ∙ short text l.i 2 n e k ∙ sym (short text l.i 1 n e k))
+    (omega arith, omega arith, λ n k. l.invariant.2 n k ∙ short text l.i 2 n e k ∙ sym (short text (length text) 1 n refl k))

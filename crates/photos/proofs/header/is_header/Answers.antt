@@ -18,9 +18,6 @@ first text p b y e = b.yes y ∙ e 2 (omega arith) gaps.0
 next : (text : List ℕ) (p q n : ℕ) {x y z : ℕ} {r : Bool} → is_header text ≡ goes text p 1 n → Has text p x y z r → r ≡ true → Given n x y z → Enters text (p + 3) q → n + 3 < 14 → get_or parts (n + 3) 0 ≡ 0 → is_header text ≡ goes text q 1 (n + 3 + 1)
 next text p q n h s t g e l z = h ∙ s.yes t n g ∙ e (n + 3) l z
 
-pub returns-then-not-begins : goal.returns-then-not-begins
-returns-then-not-begins c = sym (c.begins.ensures.no c.if-not-begins.true)
-
 pub returns-then-not-has : goal.returns-then-not-has
 returns-then-not-has c =
     let text = c.args.text.now in
@@ -49,33 +46,3 @@ returns c =
     let height = next text c.after_gap-width.result c.after_gap-height.result 3 width c.has.ensures c.if-not-has.false width_given c.after_gap-height.ensures.1 (omega arith) gaps.1 in
     let most = next text c.after_gap-height.result c.after_gap-most.result 7 height c.has-2.ensures c.if-not-has-2.false height_given c.after_gap-most.ensures.1 (omega arith) gaps.2 in
     sym (most ∙ c.has-3.ensures.yes c.if-not-has-3.false 11 most_given ∙ c.ends.ensures)
-
-pub after_gap-width-requires : goal.after_gap-width-requires
-after_gap-width-requires c = c.begins.ensures.inside c.if-not-begins.false
-
-pub has-requires : goal.has-requires
-has-requires c = c.after_gap-width.ensures.0
-
-pub overflow_add-width : goal.overflow_add-width
-overflow_add-width c = omega (arith, c.has.ensures.inside c.if-not-has.false)
-
-pub after_gap-height-requires : goal.after_gap-height-requires
-after_gap-height-requires c = c.has.ensures.inside c.if-not-has.false
-
-pub has-requires-2 : goal.has-requires-2
-has-requires-2 c = c.after_gap-height.ensures.0
-
-pub overflow_add-height : goal.overflow_add-height
-overflow_add-height c = omega (arith, c.has-2.ensures.inside c.if-not-has-2.false)
-
-pub after_gap-most-requires : goal.after_gap-most-requires
-after_gap-most-requires c = c.has-2.ensures.inside c.if-not-has-2.false
-
-pub has-requires-3 : goal.has-requires-3
-has-requires-3 c = c.after_gap-most.ensures.0
-
-pub overflow_add-most : goal.overflow_add-most
-overflow_add-most c = omega (arith, c.has-3.ensures.inside c.if-not-has-3.false)
-
-pub ends-requires : goal.ends-requires
-ends-requires c = c.has-3.ensures.inside c.if-not-has-3.false
