@@ -1,10 +1,54 @@
 // Places in a script: where a line ends, where the next accepted line stands, how many lines there are.
 ghost use Rattle.std.specs.Prelude.{◌≡◌, ◌+◌, ◌≤◌, ◌<◌, length, drop};
+ghost use Rattle.std.specs.Iterator.{YieldsFirstRef, item_count};
 ghost use Rattle.script.specs.Text.{lines_of};
 ghost use Rattle.salvaging.specs.Kept.{accepted, accepted_of};
 ghost use Rattle.salvaging.specs.Aside.{line_length, lines_at, accepted_at, Next};
 
 use lines::line::{Frame, frame_of};
+
+// The lines that are left of a script, each without its LF.
+#[derive(Drop)]
+pub(crate) struct Lines<'a>(pub(crate) &'a [u8]);
+
+impl<'a> Iterator for Lines<'a> {
+    type Item = &'a [u8];
+
+    ghost next_gives = { YieldsFirstRef (λ s. lines_of s.0.now) };
+
+    ghost remaining = { item_count (λ s. lines_of s.0.now) };
+
+    fn next(&mut self) -> Option<&'a [u8]> {
+        let script = self.0;
+        if script.is_empty() {
+            return None;
+        }
+        let end = line_end(script, 0);
+        self.0 = &script[end.min(script.len() - 1) + 1..];
+        Some(&script[..end])
+    }
+}
+
+// The accepted ones of them.
+#[derive(Drop)]
+pub(crate) struct Accepted<'a>(pub(crate) Lines<'a>);
+
+impl<'a> Iterator for Accepted<'a> {
+    type Item = &'a [u8];
+
+    ghost next_gives = { YieldsFirstRef (λ s. accepted_of (lines_of s.0.0.now)) };
+
+    ghost remaining = { item_count (λ s. accepted_of (lines_of s.0.0.now)) };
+
+    fn next(&mut self) -> Option<&'a [u8]> {
+        while let Some(line) = self.0.next() {
+            if is_accepted(line) {
+                return Some(line);
+            }
+        }
+        None
+    }
+}
 
 // Where a line begins, and where it ends: its LF not counted.
 #[derive(Clone, Copy)]
@@ -40,13 +84,7 @@ pub(crate) fn count_lines(script: &[u8]) -> usize
     requires { length script.now ≤ 32768 }
     ensures { result ≡ length (lines_of script.now) }
 {
-    let mut n = 0;
-    let mut at = 0;
-    while at < script.len() {
-        at = line_end(script, at) + 1;
-        n += 1;
-    }
-    n
+    Lines(script).count()
 }
 
 // How many of them are accepted.
@@ -54,16 +92,7 @@ pub(crate) fn count_accepted(script: &[u8]) -> usize
     requires { length script.now ≤ 32768 }
     ensures { result ≡ length (accepted_of (lines_of script.now)) }
 {
-    let mut n = 0;
-    let mut at = 0;
-    while at < script.len() {
-        let end = line_end(script, at);
-        if is_accepted(&script[at..end]) {
-            n += 1;
-        }
-        at = end + 1;
-    }
-    n
+    Accepted(Lines(script)).count()
 }
 
 // Where the next accepted line stands.
