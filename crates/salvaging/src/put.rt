@@ -6,7 +6,7 @@ ghost use Rattle.script.specs.Text.{lines_of};
 ghost use Rattle.salvaging.specs.Kept.{text_of, mark_of, left_after, marks};
 ghost use Rattle.salvaging.specs.Aside.{accepted_at};
 
-use super::place::{is_accepted, line_end, next_accepted};
+use super::place::{Accepted, Lines, is_accepted};
 
 // The report's bytes.
 pub const KEPT: u8 = 0;
@@ -20,14 +20,9 @@ pub(crate) fn text_length(script: &[u8], n: usize) -> usize
     requires { (n ≤ length (accepted_at script.now 0)) × (length script.now ≤ 32768) }
     ensures { result ≡ length (text_of (take n (accepted_at script.now 0))) }
 {
-    let mut left = n;
-    let mut at = 0;
     let mut total = 0;
-    while 0 < left {
-        let next = next_accepted(script, at);
-        total += next.end - next.from + 1;
-        at = next.end + 1;
-        left -= 1;
+    for line in Accepted(Lines(script)).take(n) {
+        total += line.len() + 1;
     }
     total
 }
@@ -48,17 +43,10 @@ pub(crate) fn put_text(script: &[u8], n: usize, text: &mut [u8])
         × (length (text_of (take n (accepted_at script.now 0))) ≤ length text.old) }
     ensures { text.new ≡ placed text.old 0 (text_of (take n (accepted_at script.now 0))) }
 {
-    let mut left = n;
-    let mut at = 0;
     let mut out = 0;
-    while 0 < left {
-        let next = next_accepted(script, at);
-        let from = next.from;
-        let end = next.end;
-        put_line(text, out, &script[from..end]);
-        out += end - from + 1;
-        at = end + 1;
-        left -= 1;
+    for line in Accepted(Lines(script)).take(n) {
+        put_line(text, out, line);
+        out += line.len() + 1;
     }
 }
 
@@ -94,14 +82,9 @@ pub(crate) fn put_report(script: &[u8], n: usize, report: &mut [u8])
     ensures { report.new ≡ placed report.old 0 (marks n (lines_of script.now)) }
 {
     let mut left = n;
-    let mut at = 0;
-    let mut i = 0;
-    while at < script.len() {
-        let end = line_end(script, at);
-        let good = is_accepted(&script[at..end]);
+    for (i, line) in Lines(script).enumerate() {
+        let good = is_accepted(line);
         report[i] = mark(good, left);
         left = left_after(good, left);
-        at = end + 1;
-        i += 1;
     }
 }
