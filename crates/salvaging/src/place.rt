@@ -3,12 +3,12 @@ ghost use Rattle.std.specs.Prelude.{◌≡◌, ◌+◌, ◌≤◌, ◌<◌, leng
 ghost use Rattle.std.specs.Iterator.{YieldsFirstRef, item_count};
 ghost use Rattle.script.specs.Text.{lines_of};
 ghost use Rattle.salvaging.specs.Kept.{accepted, accepted_of};
-ghost use Rattle.salvaging.specs.Aside.{line_length, lines_at, accepted_at, Next};
+ghost use Rattle.salvaging.specs.Aside.{line_length};
 
 use lines::line::{Frame, frame_of};
 
 // The lines that are left of a script, each without its LF.
-#[derive(Drop)]
+#[derive(Clone, Copy)]
 pub(crate) struct Lines<'a>(pub(crate) &'a [u8]);
 
 impl<'a> Iterator for Lines<'a> {
@@ -30,7 +30,7 @@ impl<'a> Iterator for Lines<'a> {
 }
 
 // The accepted ones of them.
-#[derive(Drop)]
+#[derive(Clone, Copy)]
 pub(crate) struct Accepted<'a>(pub(crate) Lines<'a>);
 
 impl<'a> Iterator for Accepted<'a> {
@@ -48,13 +48,6 @@ impl<'a> Iterator for Accepted<'a> {
         }
         None
     }
-}
-
-// Where a line begins, and where it ends: its LF not counted.
-#[derive(Clone, Copy)]
-pub struct Place {
-    pub from: usize,
-    pub end: usize,
 }
 
 // Whether a line is accepted.
@@ -93,33 +86,4 @@ pub(crate) fn count_accepted(script: &[u8]) -> usize
     ensures { result ≡ length (accepted_of (lines_of script.now)) }
 {
     Accepted(Lines(script)).count()
-}
-
-// Where the next accepted line stands.
-pub(crate) fn next_accepted(script: &[u8], at: usize) -> Place
-    requires { (0 < length (accepted_at script.now at)) × (length script.now ≤ 32768) }
-    ensures { Next script.now at result }
-{
-    let mut from = at;
-    let mut end = line_end(script, from);
-    while !is_accepted(&script[from..end]) {
-        from = end + 1;
-        end = line_end(script, from);
-    }
-    Place { from, end }
-}
-
-// The place after the first n accepted lines.
-pub(crate) fn place_after(script: &[u8], n: usize) -> usize
-    requires { (n ≤ length (accepted_at script.now 0)) × (length script.now ≤ 32768) }
-    ensures { accepted_at script.now result ≡ drop n (accepted_at script.now 0) }
-{
-    let mut left = n;
-    let mut at = 0;
-    while 0 < left {
-        let next = next_accepted(script, at);
-        at = next.end + 1;
-        left -= 1;
-    }
-    at
 }
