@@ -1,14 +1,18 @@
 -- The lines of a script, walked from place to place: laws of `line_length`, `lines_at` and `accepted_at`. Assumes nothing.
-use mathlib.Core.Path.{◌≡◌, sym, ap, ◌∙◌}
+use Rattle.std.specs.List.{position_or_len, position}
+use Rattle.std.specs.Option.{unwrap_or}
+use Rattle.std.specs.declared.option.Option.{Option}
+use Rattle.std.proofs.lemmas.List.Recursion.{is_position_or_len}
+use mathlib.Core.Path.{◌≡◌, refl, sym, ap, ◌∙◌}
 use mathlib.Core.Bool.{true, false}
 use mathlib.Core.List.{List, [], ◌∷◌}
 use Prim.Native.Nat.{ℕ, zero, suc, ◌+◌, ◌-◌, ◌<◌, ◌≤◌, min}
 use native.Mathlib.Numerals.{add-one}
 use native.Mathlib.Omega.{arith}
-use lib.Dec.{eqb}
+use lib.Dec.{eqb, ltb}
 use lib.ListN.{length, get_or, take, drop, length-drop, drop_of_length-le}
 use lib.Seq.{drop-cons, drop-drop, take_all}
-use borrow.Author.Tests.{eq-eqb, ne_eqb}
+use borrow.Author.Tests.{eq-eqb, ne_eqb, ltb-false}
 use Rattle.laws.proofs.Order.{split}
 use Rattle.laws.proofs.Bools.{either}
 use Rattle.script.specs.Text.{begins, lines_of}
@@ -32,6 +36,21 @@ ends_later s i h e = ap line_length (next s i h) ∙ simp (ne_eqb (get_or s i 0)
 pub ends_there : (s : List ℕ) (i : ℕ) → length s ≤ i → line_length (drop i s) ≡ 0
 unfolding line_length
 ends_there s i h = ap line_length (drop_of_length-le s h)
+
+-- as std looks for it
+pub first_lf : (s : List ℕ) → line_length s ≡ position_or_len (λ b. eqb b 0x0A) s
+unfolding line_length
+first_lf s = is_position_or_len line_length (λ b. eqb b 0x0A) refl (λ b rest. either (eqb b 0x0A) (λ t. simp t) (λ t. simp t (omega arith))) s
+
+pub lf_within : (s : List ℕ) → line_length s ≤ length s
+unfolding line_length
+lf_within [] = omega arith
+lf_within (b ∷ rest) = either (eqb b 0x0A) (λ t. simp t (omega arith)) (λ t. simp t (omega (arith, lf_within rest)))
+
+pub lf_found : (s : List ℕ) (r : Option ℕ) → r ≡ position (λ b. eqb b 0x0A) s → unwrap_or r (length s) ≡ line_length s
+lf_found s r e =
+    rw (e, sym (first_lf s))
+    (either (ltb (line_length s) (length s)) (λ t. simp t) (λ f. simp f (omega (arith, ltb-false (line_length s) (length s) f, lf_within s))))
 
 -- ---- the first line, and the lines after it
 

@@ -1,5 +1,5 @@
-// Places in a script: where a line ends, where the next accepted line stands, how many lines there are.
-ghost use Rattle.std.specs.Prelude.{◌≡◌, ◌+◌, ◌≤◌, ◌<◌, length, drop};
+// The lines of a script, one after the other: all of them, or the accepted ones, and how many there are.
+ghost use Rattle.std.specs.Prelude.{◌≡◌, ◌≤◌, ◌==◌, length, position};
 ghost use Rattle.std.specs.Iterator.{YieldsFirstRef, item_count};
 ghost use Rattle.script.specs.Text.{lines_of};
 ghost use Rattle.salvaging.specs.Kept.{accepted, accepted_of};
@@ -23,7 +23,7 @@ impl<'a> Iterator for Lines<'a> {
         if script.is_empty() {
             return None;
         }
-        let end = line_end(script, 0);
+        let end = line_end(script);
         self.0 = &script[end.min(script.len() - 1) + 1..];
         Some(&script[..end])
     }
@@ -57,19 +57,18 @@ pub(crate) fn is_accepted(line: &[u8]) -> bool
     !matches!(frame_of(line), Frame::Malformed)
 }
 
-// Where the line that begins at a place ends: at its LF, or at the end of the script.
-pub(crate) fn line_end(script: &[u8], at: usize) -> usize
-    requires { at ≤ length script.now }
-    ensures { (result ≡ at + line_length (drop at script.now)) × (result ≤ length script.now) }
+// Where the first LF stands.
+fn first_lf(script: &[u8]) -> Option<usize>
+    ensures { result ≡ position (λ b. b == 0x0A) script.now }
 {
-    let mut i = at;
-    while i < script.len() {
-        if script[i] == 0x0A {
-            return i;
-        }
-        i += 1;
-    }
-    i
+    script.iter().position(|b| *b == 0x0A)
+}
+
+// How many bytes a text has before its first LF, or altogether where it has none.
+fn line_end(script: &[u8]) -> usize
+    ensures { (result ≡ line_length script.now) × (result ≤ length script.now) }
+{
+    first_lf(script).unwrap_or(script.len())
 }
 
 // How many lines a script has.

@@ -4,16 +4,31 @@ ghost use Rattle.lines.specs.Hex.{placed};
 ghost use Rattle.recording.specs.Record.{ended};
 ghost use Rattle.script.specs.Text.{lines_of};
 ghost use Rattle.salvaging.specs.Kept.{text_of, mark_of, left_after, marks};
+ghost use Rattle.salvaging.specs.Marks.{byte_of};
 ghost use Rattle.salvaging.specs.Aside.{accepted_at};
 
 use super::place::{Accepted, Lines, is_accepted};
 
-// The report's bytes.
-pub const KEPT: u8 = 0;
+// What a report says of a line.
+#[derive(Clone, Copy, Debug, PartialEq, Eq)]
+pub enum Mark {
+    Kept,
+    Malformed,
+    Repeated,
+}
 
-pub const MALFORMED: u8 = 1;
+// Its byte in the report.
+impl From<Mark> for u8 {
+    ghost from_gives = { λ m b. b ≡ byte_of m };
 
-pub const REPEATED: u8 = 2;
+    fn from(mark: Mark) -> u8 {
+        match mark {
+            Mark::Kept => 0,
+            Mark::Malformed => 1,
+            Mark::Repeated => 2,
+        }
+    }
+}
 
 // How long the text of the first n accepted lines is, each with its LF.
 pub(crate) fn text_length(script: &[u8], n: usize) -> usize
@@ -50,17 +65,17 @@ pub(crate) fn put_text(script: &[u8], n: usize, text: &mut [u8])
     }
 }
 
-// The report's byte for a line, with so many still to be kept.
-fn mark(good: bool, left: usize) -> u8
-    ensures { result ≡ mark_of good left }
+// What is said of a line, with so many still to be kept.
+fn line_mark(good: bool, left: usize) -> Mark
+    ensures { byte_of result ≡ mark_of good left }
 {
     if !good {
-        return MALFORMED;
+        return Mark::Malformed;
     }
     if left == 0 {
-        return REPEATED;
+        return Mark::Repeated;
     }
-    KEPT
+    Mark::Kept
 }
 
 // How many are still to be kept after it.
@@ -84,7 +99,7 @@ pub(crate) fn put_report(script: &[u8], n: usize, report: &mut [u8])
     let mut left = n;
     for (i, line) in Lines(script).enumerate() {
         let good = is_accepted(line);
-        report[i] = mark(good, left);
+        report[i] = u8::from(line_mark(good, left));
         left = left_after(good, left);
     }
 }

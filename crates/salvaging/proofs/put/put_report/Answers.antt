@@ -19,8 +19,8 @@ pub loop-i-preserved : goal.loop-i-preserved
 loop-i-preserved c =
     let l = c.loop-i in
     let s = c.in-Some.ensures.steps in
-    let m = marks_next l.left s.0 c.is_accepted-good.ensures c.mark.ensures c.left_after-left.ensures in
-    (omega (arith, l.invariant.0, ap length s.0, s.2), rw (s.1, s.2) (mark_next l.report l.i-iterator.count c.mark.result _ _ (omega (arith, l.invariant.0, ap length s.0)) m ∙ l.invariant.1))
+    let m = marks_next l.left s.0 c.is_accepted-good.ensures (c.from.ensures ∙ c.line_mark.ensures) c.left_after-left.ensures in
+    (omega (arith, l.invariant.0, ap length s.0, s.2), rw (s.1, s.2) (mark_next l.report l.i-iterator.count c.from.result _ _ (omega (arith, l.invariant.0, ap length s.0)) m ∙ l.invariant.1))
 
 pub returns : goal.returns
 returns c =
