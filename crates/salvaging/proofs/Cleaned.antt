@@ -202,6 +202,11 @@ unfolding cleaned
 cleaned_long script =
     omega (arith, within_text (never_added (lines_of script)), ap length (lines_text script), end_longer script)
 
+-- nor to the first of the accepted lines
+pub text_few : (script : List ℕ) (n : ℕ) → length (text_of (take n (accepted_of (lines_of script)))) ≤ length script + 1
+text_few script n =
+    omega (arith, within_text (accepted_within n (lines_of script)), ap length (lines_text script), end_longer script)
+
 -- there are no more lines than bytes
 begun_lines : (b : ℕ) (lines : List (List ℕ)) → length (begins b lines) ≤ suc (length lines)
 begun_lines b [] = omega arith

@@ -47,6 +47,11 @@ pub text_none : (n : ℕ) (lines : List (List ℕ)) → n ≡ 0 → text_of (tak
 unfolding text_of
 text_none n lines e = rw e
 
+pub text_over : (n : ℕ) (lines : List (List ℕ)) → (0 < n → lines ≡ []) → text_of (take n lines) ≡ []
+unfolding text_of
+text_over zero lines e = refl
+text_over (suc n) lines e = let h : lines ≡ [] = e (omega arith) in rw h
+
 pub between_long : (s : List ℕ) (from end : ℕ) → from ≤ end → end ≤ length s → length (between s from end) ≡ end - from
 between_long s from end h k = length-take-le (end - from) (drop from s) (rw length-drop (omega arith))
 

@@ -3,7 +3,6 @@
 use Rattle.std.specs.Prelude.{◌≡◌, List, [], ◌∷◌, ℕ, suc, ◌+◌, ◌-◌, ◌≤◌, eqb, length, take, drop}
 use Rattle.laws.specs.Pick.{pick}
 use Rattle.script.specs.Text.{lines_of}
-use Rattle.salvaging.specs.declared.place.Place.{Place}
 use Rattle.salvaging.specs.Kept.{accepted_of}
 
 -- how many bytes a text has before its first LF
@@ -21,10 +20,3 @@ accepted_at script at = accepted_of (lines_at script at)
 -- the bytes from one place to another
 abbrev pub between : List ℕ → ℕ → ℕ → List ℕ
 between script from end = take (end - from) (drop from script)
-
--- where the next accepted line stands: it is the first of those from `at` on
-pub record Next (script : List ℕ) (at : ℕ) (p : Place) : Type 0 where
-  pub past : at ≤ p.from
-  pub order : p.from ≤ p.end
-  pub inside : p.end ≤ length script
-  pub first : accepted_at script at ≡ between script p.from p.end ∷ accepted_at script (p.end + 1)

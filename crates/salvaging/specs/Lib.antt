@@ -2,3 +2,4 @@
 pub mod Kept
 pub mod Salvage
 pub mod Aside
+pub mod Marks

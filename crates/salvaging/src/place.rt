@@ -1,16 +1,53 @@
-// Places in a script: where a line ends, where the next accepted line stands, how many lines there are.
-ghost use Rattle.std.specs.Prelude.{◌≡◌, ◌+◌, ◌≤◌, ◌<◌, length, drop};
+// The lines of a script, one after the other: all of them, or the accepted ones, and how many there are.
+ghost use Rattle.std.specs.Prelude.{◌≡◌, ◌≤◌, ◌==◌, length, position};
+ghost use Rattle.std.specs.Iterator.{YieldsFirstRef, item_count};
 ghost use Rattle.script.specs.Text.{lines_of};
 ghost use Rattle.salvaging.specs.Kept.{accepted, accepted_of};
-ghost use Rattle.salvaging.specs.Aside.{line_length, lines_at, accepted_at, Next};
+ghost use Rattle.salvaging.specs.Aside.{line_length};
 
 use lines::line::{Frame, frame_of};
 
-// Where a line begins, and where it ends: its LF not counted.
+// The lines that are left of a script, each without its LF.
 #[derive(Clone, Copy)]
-pub struct Place {
-    pub from: usize,
-    pub end: usize,
+pub(crate) struct Lines<'a>(pub(crate) &'a [u8]);
+
+impl<'a> Iterator for Lines<'a> {
+    type Item = &'a [u8];
+
+    ghost next_gives = { YieldsFirstRef (λ s. lines_of s.0.now) };
+
+    ghost remaining = { item_count (λ s. lines_of s.0.now) };
+
+    fn next(&mut self) -> Option<&'a [u8]> {
+        let script = self.0;
+        if script.is_empty() {
+            return None;
+        }
+        let end = line_end(script);
+        self.0 = &script[end.min(script.len() - 1) + 1..];
+        Some(&script[..end])
+    }
+}
+
+// The accepted ones of them.
+#[derive(Clone, Copy)]
+pub(crate) struct Accepted<'a>(pub(crate) Lines<'a>);
+
+impl<'a> Iterator for Accepted<'a> {
+    type Item = &'a [u8];
+
+    ghost next_gives = { YieldsFirstRef (λ s. accepted_of (lines_of s.0.0.now)) };
+
+    ghost remaining = { item_count (λ s. accepted_of (lines_of s.0.0.now)) };
+
+    fn next(&mut self) -> Option<&'a [u8]> {
+        while let Some(line) = self.0.next() {
+            if is_accepted(line) {
+                return Some(line);
+            }
+        }
+        None
+    }
 }
 
 // Whether a line is accepted.
@@ -20,19 +57,18 @@ pub(crate) fn is_accepted(line: &[u8]) -> bool
     !matches!(frame_of(line), Frame::Malformed)
 }
 
-// Where the line that begins at a place ends: at its LF, or at the end of the script.
-pub(crate) fn line_end(script: &[u8], at: usize) -> usize
-    requires { at ≤ length script.now }
-    ensures { (result ≡ at + line_length (drop at script.now)) × (result ≤ length script.now) }
+// Where the first LF stands.
+fn first_lf(script: &[u8]) -> Option<usize>
+    ensures { result ≡ position (λ b. b == 0x0A) script.now }
 {
-    let mut i = at;
-    while i < script.len() {
-        if script[i] == 0x0A {
-            return i;
-        }
-        i += 1;
-    }
-    i
+    script.iter().position(|b| *b == 0x0A)
+}
+
+// How many bytes a text has before its first LF, or altogether where it has none.
+fn line_end(script: &[u8]) -> usize
+    ensures { (result ≡ line_length script.now) × (result ≤ length script.now) }
+{
+    first_lf(script).unwrap_or(script.len())
 }
 
 // How many lines a script has.
@@ -40,13 +76,7 @@ pub(crate) fn count_lines(script: &[u8]) -> usize
     requires { length script.now ≤ 32768 }
     ensures { result ≡ length (lines_of script.now) }
 {
-    let mut n = 0;
-    let mut at = 0;
-    while at < script.len() {
-        at = line_end(script, at) + 1;
-        n += 1;
-    }
-    n
+    Lines(script).count()
 }
 
 // How many of them are accepted.
@@ -54,43 +84,5 @@ pub(crate) fn count_accepted(script: &[u8]) -> usize
     requires { length script.now ≤ 32768 }
     ensures { result ≡ length (accepted_of (lines_of script.now)) }
 {
-    let mut n = 0;
-    let mut at = 0;
-    while at < script.len() {
-        let end = line_end(script, at);
-        if is_accepted(&script[at..end]) {
-            n += 1;
-        }
-        at = end + 1;
-    }
-    n
-}
-
-// Where the next accepted line stands.
-pub(crate) fn next_accepted(script: &[u8], at: usize) -> Place
-    requires { (0 < length (accepted_at script.now at)) × (length script.now ≤ 32768) }
-    ensures { Next script.now at result }
-{
-    let mut from = at;
-    let mut end = line_end(script, from);
-    while !is_accepted(&script[from..end]) {
-        from = end + 1;
-        end = line_end(script, from);
-    }
-    Place { from, end }
-}
-
-// The place after the first n accepted lines.
-pub(crate) fn place_after(script: &[u8], n: usize) -> usize
-    requires { (n ≤ length (accepted_at script.now 0)) × (length script.now ≤ 32768) }
-    ensures { accepted_at script.now result ≡ drop n (accepted_at script.now 0) }
-{
-    let mut left = n;
-    let mut at = 0;
-    while 0 < left {
-        let next = next_accepted(script, at);
-        at = next.end + 1;
-        left -= 1;
-    }
-    at
+    Accepted(Lines(script)).count()
 }

@@ -4,30 +4,40 @@ ghost use Rattle.lines.specs.Hex.{placed};
 ghost use Rattle.recording.specs.Record.{ended};
 ghost use Rattle.script.specs.Text.{lines_of};
 ghost use Rattle.salvaging.specs.Kept.{text_of, mark_of, left_after, marks};
+ghost use Rattle.salvaging.specs.Marks.{byte_of};
 ghost use Rattle.salvaging.specs.Aside.{accepted_at};
 
-use super::place::{is_accepted, line_end, next_accepted};
+use super::place::{Accepted, Lines, is_accepted};
 
-// The report's bytes.
-pub const KEPT: u8 = 0;
+// What a report says of a line.
+#[derive(Clone, Copy, Debug, PartialEq, Eq)]
+pub enum Mark {
+    Kept,
+    Malformed,
+    Repeated,
+}
 
-pub const MALFORMED: u8 = 1;
+// Its byte in the report.
+impl From<Mark> for u8 {
+    ghost from_gives = { λ m b. b ≡ byte_of m };
 
-pub const REPEATED: u8 = 2;
+    fn from(mark: Mark) -> u8 {
+        match mark {
+            Mark::Kept => 0,
+            Mark::Malformed => 1,
+            Mark::Repeated => 2,
+        }
+    }
+}
 
 // How long the text of the first n accepted lines is, each with its LF.
 pub(crate) fn text_length(script: &[u8], n: usize) -> usize
     requires { (n ≤ length (accepted_at script.now 0)) × (length script.now ≤ 32768) }
     ensures { result ≡ length (text_of (take n (accepted_at script.now 0))) }
 {
-    let mut left = n;
-    let mut at = 0;
     let mut total = 0;
-    while 0 < left {
-        let next = next_accepted(script, at);
-        total += next.end - next.from + 1;
-        at = next.end + 1;
-        left -= 1;
+    for line in Accepted(Lines(script)).take(n) {
+        total += line.len() + 1;
     }
     total
 }
@@ -48,31 +58,24 @@ pub(crate) fn put_text(script: &[u8], n: usize, text: &mut [u8])
         × (length (text_of (take n (accepted_at script.now 0))) ≤ length text.old) }
     ensures { text.new ≡ placed text.old 0 (text_of (take n (accepted_at script.now 0))) }
 {
-    let mut left = n;
-    let mut at = 0;
     let mut out = 0;
-    while 0 < left {
-        let next = next_accepted(script, at);
-        let from = next.from;
-        let end = next.end;
-        put_line(text, out, &script[from..end]);
-        out += end - from + 1;
-        at = end + 1;
-        left -= 1;
+    for line in Accepted(Lines(script)).take(n) {
+        put_line(text, out, line);
+        out += line.len() + 1;
     }
 }
 
-// The report's byte for a line, with so many still to be kept.
-fn mark(good: bool, left: usize) -> u8
-    ensures { result ≡ mark_of good left }
+// What is said of a line, with so many still to be kept.
+fn line_mark(good: bool, left: usize) -> Mark
+    ensures { byte_of result ≡ mark_of good left }
 {
     if !good {
-        return MALFORMED;
+        return Mark::Malformed;
     }
     if left == 0 {
-        return REPEATED;
+        return Mark::Repeated;
     }
-    KEPT
+    Mark::Kept
 }
 
 // How many are still to be kept after it.
@@ -94,14 +97,9 @@ pub(crate) fn put_report(script: &[u8], n: usize, report: &mut [u8])
     ensures { report.new ≡ placed report.old 0 (marks n (lines_of script.now)) }
 {
     let mut left = n;
-    let mut at = 0;
-    let mut i = 0;
-    while at < script.len() {
-        let end = line_end(script, at);
-        let good = is_accepted(&script[at..end]);
-        report[i] = mark(good, left);
+    for (i, line) in Lines(script).enumerate() {
+        let good = is_accepted(line);
+        report[i] = u8::from(line_mark(good, left));
         left = left_after(good, left);
-        at = end + 1;
-        i += 1;
     }
 }

@@ -1,11 +1,11 @@
 // Whether accepted lines are some sequence followed by itself, and how many are kept.
-ghost use Rattle.std.specs.Prelude.{◌≡◌, ◌≤◌, ◌<◌, length, take};
+ghost use Rattle.std.specs.Prelude.{◌≡◌, ◌≤◌, length, take, drop};
 ghost use Rattle.lines.specs.Line.{frame_of};
 ghost use Rattle.script.specs.Text.{lines_of};
-ghost use Rattle.salvaging.specs.Kept.{is_reset, starts_reset, same_line, same_lines, doubled, salvaged};
+ghost use Rattle.salvaging.specs.Kept.{accepted_of, is_reset, starts_reset, same_lines, doubled, salvaged};
 ghost use Rattle.salvaging.specs.Aside.{accepted_at};
 
-use super::place::{count_accepted, next_accepted, place_after};
+use super::place::{Accepted, Lines, count_accepted};
 use lines::line::{Frame, frame_of};
 
 // Whether a line is reset.
@@ -15,43 +15,36 @@ fn is_reset(line: &[u8]) -> bool
     matches!(frame_of(line), Frame::Reset)
 }
 
-// Whether the accepted lines from a place on start with reset.
-fn starts_reset(script: &[u8], at: usize) -> bool
-    requires { (0 < length (accepted_at script.now at)) × (length script.now ≤ 32768) }
-    ensures { result ≡ starts_reset (accepted_at script.now at) }
+// The accepted lines after the first n.
+fn after<'a>(script: &'a [u8], n: usize) -> Accepted<'a>
+    ensures { accepted_of (lines_of result.0.0.now) ≡ drop n (accepted_of (lines_of script.now)) }
 {
-    let first = next_accepted(script, at);
-    is_reset(&script[first.from..first.end])
+    let mut lines = Accepted(Lines(script));
+    for _ in 0..n {
+        lines.next();
+    }
+    lines
 }
 
-// Whether two lines have the same bytes.
-fn same_line(a: &[u8], b: &[u8]) -> bool
-    ensures { result ≡ same_line a.now b.now }
+// Whether lines start with reset.
+fn starts_reset(mut lines: Accepted<'_>) -> bool
+    ensures { result ≡ starts_reset (accepted_of (lines_of lines.entry.0.0.now)) }
 {
-    a == b
+    match lines.next() {
+        Some(line) => is_reset(line),
+        None => false,
+    }
 }
 
-// Whether the next n accepted lines from one place on are those from another.
-fn same_lines(script: &[u8], one: usize, other: usize, n: usize) -> bool
-    requires { (n ≤ length (accepted_at script.now one)) × (n ≤ length (accepted_at script.now other)) × (length script.now ≤ 32768) }
-    ensures { result ≡ same_lines (take n (accepted_at script.now one)) (take n (accepted_at script.now other)) }
+// Whether the first n of some lines are those of others.
+fn same_lines(one: Accepted<'_>, other: Accepted<'_>, n: usize) -> bool
+    requires { (n ≤ length (accepted_of (lines_of one.0.0.now))) × (n ≤ length (accepted_of (lines_of other.0.0.now))) }
+    ensures { result ≡ same_lines (take n (accepted_of (lines_of one.entry.0.0.now))) (take n (accepted_of (lines_of other.entry.0.0.now))) }
 {
-    let mut left = n;
-    let mut p = one;
-    let mut q = other;
-    while 0 < left {
-        let a = next_accepted(script, p);
-        let b = next_accepted(script, q);
-        let a_from = a.from;
-        let a_end = a.end;
-        let b_from = b.from;
-        let b_end = b.end;
-        if !same_line(&script[a_from..a_end], &script[b_from..b_end]) {
+    for (a, b) in one.take(n).zip(other) {
+        if a != b {
             return false;
         }
-        p = a_end + 1;
-        q = b_end + 1;
-        left -= 1;
     }
     true
 }
@@ -68,14 +61,14 @@ fn is_doubled(script: &[u8], n: usize) -> bool
     if n % 2 != 0 {
         return false;
     }
-    if !starts_reset(script, 0) {
+    if !starts_reset(Accepted(Lines(script))) {
         return false;
     }
-    let middle = place_after(script, half);
-    if !starts_reset(script, middle) {
+    let later = after(script, half);
+    if !starts_reset(later) {
         return false;
     }
-    same_lines(script, 0, middle, half)
+    same_lines(Accepted(Lines(script)), later, half)
 }
 
 // How many of the accepted lines are kept: one half of them, again until no repetition is left.

@@ -1,16 +1,12 @@
--- The invariants of `salvaging::put::put_text`. Assumes nothing.
-use mathlib.Core.Path.{◌≡◌}
-use Prim.Native.Nat.{◌≤◌, ◌+◌}
-use lib.ListN.{length, take}
+-- The invariant of `salvaging::put::put_text`: what is still to be put, from here and from the start, comes to the same. Assumes nothing.
+use Rattle.std.proofs.Common.{◌≡◌, ◌+◌, ◌≤◌, length, take}
 use Rattle.lines.specs.Hex.{placed}
-use Rattle.salvaging.specs.Kept.{text_of}
+use Rattle.script.specs.Text.{lines_of}
+use Rattle.salvaging.specs.Kept.{accepted_of, text_of}
 use Rattle.salvaging.specs.Aside.{accepted_at}
 use Rattle.salvaging.proofs.put.put_text.Given as goal
 
-abbrev pub invariant-loop-left : goal.invariant-loop-left
-invariant-loop-left l =
-    (l.left ≤ length (accepted_at l.script l.at)) × (length l.text ≡ length l.initial.text) × (l.out + length (text_of (take l.left (accepted_at l.script l.at))) ≤ length l.initial.text)
-    × (placed l.text l.out (text_of (take l.left (accepted_at l.script l.at))) ≡ placed l.initial.text 0 (text_of (take l.n (accepted_at l.script 0))))
-
-abbrev pub decreases-loop-left : goal.decreases-loop-left
-decreases-loop-left l = l.left
+abbrev pub invariant-loop-line : goal.invariant-loop-line
+invariant-loop-line l =
+    (l.out + length (text_of (take l.line-iterator.n (accepted_of (lines_of l.line-iterator.iter.0.0.now)))) ≤ length l.initial.text)
+    × (placed l.text l.out (text_of (take l.line-iterator.n (accepted_of (lines_of l.line-iterator.iter.0.0.now)))) ≡ placed l.initial.text 0 (text_of (take l.n (accepted_at l.script 0))))

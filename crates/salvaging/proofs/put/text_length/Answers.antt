@@ -1,44 +1,32 @@
--- `salvage::put::text_length` meets its contract: the invariant is that the length so far and the length of the lines left are the whole. Assumes nothing.
-use mathlib.Core.Path.{ap}
-use native.Mathlib.Omega.{arith}
-use lib.ListN.{length}
-use Rattle.salvaging.specs.Aside.{accepted_at}
-use Rattle.salvaging.proofs.Puts.{text_longer, text_none, between_long}
+-- `salvaging::put::text_length` meets its contract: the invariant is that the length so far and the length of the lines left are the whole. Assumes nothing.
+use Rattle.std.proofs.Common.{◌≡◌, ◌-◌, ap, length, arith}
+use Rattle.script.specs.Text.{lines_of}
+use Rattle.salvaging.specs.Kept.{accepted_of}
+use Rattle.salvaging.proofs.Puts.{text_longer, text_over}
+use Rattle.salvaging.proofs.Cleaned.{text_few}
 use Rattle.salvaging.proofs.put.text_length.Goals as goal
 
-pub loop-left-init : goal.loop-left-init
-loop-left-init c = (c.requires.0, omega arith, omega arith, omega arith)
+pub loop-line-init : goal.loop-line-init
+loop-line-init c =
+    let e = c.take-line-items.ensures in
+    rw (c.into_iter-line-iterator.ensures.into_iter_gives, e.source, e.count) (omega arith)
 
-pub next_accepted-next-requires : goal.next_accepted-next-requires
-next_accepted-next-requires c = (omega arith, c.requires.1)
+pub overflow_add-total-in-loop-line : goal.overflow_add-total-in-loop-line
+overflow_add-total-in-loop-line c =
+    let l = c.loop-line in
+    let s = c.in-Some.ensures.steps in
+    omega (arith, l.invariant, text_longer l.line-iterator.n (omega (arith, s.1)) s.0, text_few c.args.script.now c.args.n, c.requires.1)
 
-pub overflow_sub-total : goal.overflow_sub-total
-overflow_sub-total c = c.next_accepted-next.ensures.order
-
-pub overflow_add-total : goal.overflow_add-total
-overflow_add-total c = omega (arith, c.next_accepted-next.ensures.inside, c.requires.1)
-
-pub overflow_add-total-in-loop-left : goal.overflow_add-total-in-loop-left
-overflow_add-total-in-loop-left c = omega (arith, c.next_accepted-next.ensures, c.requires.1)
-
-pub overflow_add-at : goal.overflow_add-at
-overflow_add-at c = omega (arith, c.next_accepted-next.ensures.inside, c.requires.1)
-
-pub overflow_sub-left : goal.overflow_sub-left
-overflow_sub-left c = omega arith
-
-pub loop-left-smaller : goal.loop-left-smaller
-loop-left-smaller c = omega arith
-
-pub loop-left-preserved : goal.loop-left-preserved
-loop-left-preserved c =
-    let l = c.loop-left in
-    let next = c.next_accepted-next in
-    let first = next.ensures.first in
-    let long = between_long c.args.script.now next.result.from next.result.end next.ensures.order next.ensures.inside in
-    (omega (arith, ap length first), omega (arith, l.invariant.1, text_longer l.left c.loop-left-test.true first, long), omega (arith, l.invariant, next.ensures), omega (arith, next.ensures.inside))
+pub loop-line-preserved : goal.loop-line-preserved
+loop-line-preserved c =
+    let l = c.loop-line in
+    let s = c.in-Some.ensures.steps in
+    let p : l.line-iterator.n - 1 ≡ c.next.new.self.n = omega (arith, s.1) in
+    let t = rw p at (text_longer l.line-iterator.n (omega (arith, s.1)) s.0) in
+    omega (arith, l.invariant, t)
 
 pub returns : goal.returns
 returns c =
-    let l = c.loop-left in
-    omega (arith, l.invariant.1, ap length (text_none l.left (accepted_at c.args.script.now l.at) (omega arith)))
+    let l = c.loop-line in
+    let s = c.in-None.ensures.steps in
+    omega (arith, l.invariant, ap length (text_over l.line-iterator.n (accepted_of (lines_of l.line-iterator.iter.0.0.now)) (λ p. (s p).0)))

@@ -23,27 +23,20 @@ returns-then-not-starts_reset c =
     let s = c in
     sym (first_not (accepted_at s.args.script.now 0) s.args.n s.requires.0 c.if-half-eq0.false c.if-n-ne0.false (sym c.starts_reset.ensures ∙ c.if-not-starts_reset.true))
 
--- where the later half begins there are as many lines as are left
-pub starts_reset-requires-2 : goal.starts_reset-requires-2
-starts_reset-requires-2 c =
-    let s = c in
-    (omega (arith, c.if-half-eq0.false, s.requires.0, ap length c.place_after-middle.ensures, length-drop (s.args.n / 2) (accepted_at s.args.script.now 0)), s.requires.1)
-
 pub returns-then-not-starts_reset-2 : goal.returns-then-not-starts_reset-2
 returns-then-not-starts_reset-2 c =
     let s = c in
-    sym (second_not (accepted_at s.args.script.now 0) s.args.n s.requires.0 c.if-half-eq0.false c.if-n-ne0.false c.place_after-middle.ensures (sym c.starts_reset-2.ensures ∙ c.if-not-starts_reset-2.true))
+    sym (second_not (accepted_at s.args.script.now 0) s.args.n s.requires.0 c.if-half-eq0.false c.if-n-ne0.false c.after-later.ensures (sym c.starts_reset-2.ensures ∙ c.if-not-starts_reset-2.true))
 
 pub same_lines-requires : goal.same_lines-requires
 same_lines-requires c =
     let s = c in (
       omega (arith, s.requires.0),
-      omega (arith, s.requires.0, ap length c.place_after-middle.ensures, length-drop (s.args.n / 2) (accepted_at s.args.script.now 0)),
-      s.requires.1,
+      omega (arith, s.requires.0, ap length c.after-later.ensures, length-drop (s.args.n / 2) (accepted_at s.args.script.now 0)),
     )
 
 pub returns : goal.returns
 returns c =
     let s = c in
     c.same_lines.ensures
-    ∙ sym (both_start (accepted_at s.args.script.now 0) s.args.n s.requires.0 c.if-half-eq0.false c.if-n-ne0.false c.place_after-middle.ensures (sym c.starts_reset.ensures ∙ c.if-not-starts_reset.false) (sym c.starts_reset-2.ensures ∙ c.if-not-starts_reset-2.false))
+    ∙ sym (both_start (accepted_at s.args.script.now 0) s.args.n s.requires.0 c.if-half-eq0.false c.if-n-ne0.false c.after-later.ensures (sym c.starts_reset.ensures ∙ c.if-not-starts_reset.false) (sym c.starts_reset-2.ensures ∙ c.if-not-starts_reset-2.false))

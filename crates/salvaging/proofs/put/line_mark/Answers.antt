@@ -1,8 +1,8 @@
--- `salvage::put::mark` meets its contract: its tests are the definition's. Assumes nothing.
+-- `salvaging::put::line_mark` meets its contract: its tests are the definition's. Assumes nothing.
 use mathlib.Core.Path.{sym}
 use Rattle.salvaging.specs.Kept.{mark_of}
 use Rattle.salvaging.proofs.Puts.{some_kept}
-use Rattle.salvaging.proofs.put.mark.Goals as goal
+use Rattle.salvaging.proofs.put.line_mark.Goals as goal
 
 pub returns-then-not-good : goal.returns-then-not-good
 unfolding mark_of
