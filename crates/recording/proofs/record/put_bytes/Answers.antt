@@ -19,7 +19,7 @@ loop-i-preserved c =
     let a = c.args in
     let l = c.loop-i in
     let k = a.at + 2 * l.i in
-    let small = c.shared_slice_known-in-loop-i-1.given l.i in (
+    let small = c.type_inv.bytes l.i in (
       simp length-set l.invariant.0,
       (λ j. set (set (l.invariant.1 j) k (c.digit_byte.ensures j)) (k + 1) (c.digit_byte-in-loop-i.ensures j))
           ∙ row_stored a.out.now a.at a.bytes.now l.i (omega arith) (omega (arith, small)) (omega arith),
