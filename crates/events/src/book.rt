@@ -52,7 +52,7 @@ fn count(book: &mut [u64], k: usize)
     book[k] = one_more(book[k]);
 }
 
-// A line: malformed, refused with a number, or a row that is lent.
+// A line: malformed, refused with a number (0: it is not), or a row that is lent. Two flags, as this function has to answer for every two.
 pub fn count_line(book: &mut [u64], malformed: bool, row: bool, number: u32)
     requires { length book.old ≡ 13 }
     ensures { book.new ≡ line_by book.old malformed row number }

@@ -1,4 +1,8 @@
 // Lines of a piece, read where they stand: where one ends; reads, writes and ticks one after the other, whose kind says where their LF is to be.
+//
+// What a session is lent (record, ROM, RAM, frame store and image) stays one parameter each, here and in `auditing`, `pieces` and `sweeping`: the clauses
+// and the theorems of `audited` speak of each. A struct that holds a `&mut` tells its caller of it by a ghost name, so every clause would say more and
+// not less. `playing::Audit` is such a struct, where no clause speaks of them.
 #![tactic(auto)]
 
 ghost use Rattle.std.specs.Prelude.{◌≡◌, true, ◌+◌, ◌≤◌, ◌<◌, length, nat_eq, position};
@@ -29,7 +33,7 @@ fn first_lf(bytes: &[u8]) -> Option<usize>
 }
 
 // Where the line that begins at a place of a piece ends: at its LF, or at the piece's end. Eight bytes are looked at in a row, as long as there are so many:
-// so the compiler unrolls the loop, which `position` alone does not let it (docs/DECISIONS.md, the end of a line).
+// `position` alone was tried over lines of 260 bytes, and takes 1.9 times as long (x86-64). The outer loop goes on by eight, so it is no `for`.
 #[tactic(auto, using(crate::proofs::Standing::passed_one))]
 pub fn line_end(piece: &[u8], from: usize) -> usize
     requires { from ≤ length piece.now }
@@ -57,7 +61,10 @@ pub fn is_malformed(frame: Frame) -> bool
     matches!(frame, Frame::Malformed)
 }
 
-// Carries out and answers a line of n bytes. It is left where no LF stands after them or they say no frame.
+// Carries out and answers a line of n bytes. It is left where no LF stands after them or they say no frame: the place then stays, which `Moves` says as it
+// says a line. An Option would be no plainer, since its None needs a clause of its own for each of the slices. `sweeping::runs` has these three functions
+// again, for lines that are played: one form for both, that finds a line's end alone, was tried and misses the speed of these (docs/DECISIONS.md, reads,
+// writes and ticks in a row).
 #[tactic(auto, using(crate::proofs::Standing::moves_none, crate::proofs::Standing::moves_line, crate::proofs::Standing::ends_there))]
 fn line_of(
     state: &mut [u8],
@@ -118,7 +125,8 @@ fn short_line(
     }
 }
 
-// Carries out and answers such lines one after the other, up to one that is none or for which the piece or the buffer may have no room.
+// Carries out and answers such lines one after the other, up to one that is none or for which the piece or the buffer may have no room. No `for` goes over
+// them: how far a line reaches is known only when its kind is read.
 #[tactic(auto, using(crate::proofs::Standing::moves_none, crate::proofs::Standing::moves_on))]
 pub fn short_lines(
     state: &mut [u8],

@@ -1,4 +1,5 @@
-// Reads, writes and ticks one after the other, as `short` reads them: such a line's kind says where its LF is to be, so none is looked for.
+// Reads, writes and ticks one after the other, as `short` reads them: such a line's kind says where its LF is to be, so none is looked for. Why they are
+// not one with those of `short`, and no `for` goes over them, stands there.
 ghost use Rattle.std.specs.Prelude.{◌≡◌, true, ◌+◌, ◌≤◌, ◌<◌, length};
 ghost use Rattle.layout.specs.Layout.{is_record, decoded};
 ghost use Rattle.session.specs.Session.{world};
