@@ -90,22 +90,15 @@ fn control_write(state: &mut [u8], address: u16, value: u8)
     requires { (is_record state.old ≡ true) × (Bytes state.old) }
     ensures { state.new ≡ encoded (control_written (decoded state.old) address value) }
 {
-    if address < 0x2000 {
-        if value == 0x0A {
-            state[1] = 1;
-            return;
-        }
-        if value == 0x00 {
-            state[1] = 0;
-        }
-        return;
-    }
-    if address < 0x4000 {
-        state[2] = value % 64;
-        return;
-    }
-    if address < 0x6000 {
-        state[3] = value % 32;
+    match address {
+        0x0000..=0x1FFF => match value {
+            0x0A => state[1] = 1,
+            0x00 => state[1] = 0,
+            _ => {}
+        },
+        0x2000..=0x3FFF => state[2] = value % 64,
+        0x4000..=0x5FFF => state[3] = value % 32,
+        _ => {}
     }
 }
 
