@@ -1,40 +1,45 @@
 -- Laws of the first reversed element. Assumes nothing.
-use Rattle.std.proofs.Common.{◌≡◌, refl, sym, ◌∙◌, true, false, List, ℕ, zero, suc, ◌+◌, ◌-◌, ◌/◌, ◌%◌, ◌<◌, ◌≤◌, arith, Option, Some, None, unwrap_or}
-use Rattle.std.specs.Option.{MatchOption}
+use mathlib.Core.Path.{◌≡◌, refl, ◌∙◌}
+use mathlib.Core.Bool.{true, false}
+use mathlib.Core.List.{List}
+use Prim.Native.Nat.{ℕ, suc, ◌+◌, ◌-◌, ◌*◌, ◌/◌, ◌%◌, ◌<◌}
+use native.Mathlib.Omega.{arith}
+use lib.Dec.{ltb}
+use lib.ListN.{get_or}
 use Rattle.matrix.specs.Matrix.{reversed, first_in}
 
-module _ (regs : List ℕ) where
-  abbrev pub Is : ℕ → Type 0
-  Is k = reversed regs (k / 4) (k % 4) ≡ true
+-- L > M, or else M > H
+module _ (regs : List ℕ) (row column : ℕ) where
+  pub reversed_left : ltb (get_or regs (6 + 3 * (4 * row + column) + 1) 0) (get_or regs (6 + 3 * (4 * row + column)) 0) ≡ true → reversed regs row column ≡ true
+  unfolding reversed
+  reversed_left h = simp h
 
-  abbrev pub Not : ℕ → Type 0
-  Not k = reversed regs (k / 4) (k % 4) ≡ false
+  pub reversed_right : ltb (get_or regs (6 + 3 * (4 * row + column) + 1) 0) (get_or regs (6 + 3 * (4 * row + column)) 0) ≡ false → reversed regs row column ≡ ltb (get_or regs (6 + 3 * (4 * row + column) + 2) 0) (get_or regs (6 + 3 * (4 * row + column) + 1) 0)
+  unfolding reversed
+  reversed_right h = simp h
 
-  -- elements that are not reversed are passed over
-  passed : (i k n : ℕ) → ((j : ℕ) → k ≤ j → j < k + i → Not j) → first_in regs k (i + n) ≡ first_in regs (k + i) n
+module _ (regs : List ℕ) (row column : ℕ) (r : row < 4) (k : column < 4) where
+  -- the element of a row and column, by its number
+  place : reversed regs ((4 * row + column) / 4) ((4 * row + column) % 4) ≡ reversed regs row column
+  place =
+      let q : (4 * row + column) / 4 ≡ row = omega arith in
+      let m : (4 * row + column) % 4 ≡ column = omega arith in
+      rw (q, m)
+
+  left : 16 - (4 * row + column) ≡ suc (16 - (4 * row + column + 1))
+  left = omega arith
+
+  pub first_skip : reversed regs row column ≡ false → first_in regs (4 * row + column) (16 - (4 * row + column)) ≡ first_in regs (4 * row + (column + 1)) (16 - (4 * row + (column + 1)))
   unfolding first_in
-  passed zero k n none =
-      let e : 0 + n ≡ n = omega arith in
-      let f : k + 0 ≡ k = omega arith in
-      rw (e, f)
-  passed (suc i) k n none =
-      let e : suc i + n ≡ suc (i + n) = omega arith in
-      let f : suc k + i ≡ k + suc i = omega arith in
-      rw e (simp (none k (omega arith) (omega arith)) (passed i (suc k) n (λ j a b. none j (omega arith) (omega arith)) ∙ rw f))
+  first_skip h =
+      let e : suc (4 * row + column) ≡ 4 * row + (column + 1) = omega arith in
+      let f : 16 - (4 * row + column + 1) ≡ 16 - (4 * row + (column + 1)) = omega arith in
+      rw left (simp (place ∙ h) (rw (e, f)))
 
-  hit : (k n : ℕ) → Is k → first_in regs k (suc n) ≡ k
+  pub first_hit : reversed regs row column ≡ true → first_in regs (4 * row + column) (16 - (4 * row + column)) ≡ 4 * row + column
   unfolding first_in
-  hit k n here = simp here
+  first_hit h = rw left (simp (place ∙ h))
 
-  none_left : (k : ℕ) → first_in regs k 0 ≡ k
-  unfolding first_in
-  none_left k = refl
-
-  -- what a search of all sixteen finds
-  pub found : (r : Option ℕ) → MatchOption r ((k : ℕ) → 0 ≤ k → k < 16 → Not k) (λ i. (0 ≤ i) × (i < 16) × Is i × ((k : ℕ) → 0 ≤ k → k < i → Not k)) → unwrap_or r 16 ≡ first_in regs 0 16
-  found None none = sym (passed 16 0 0 none ∙ none_left 16)
-  found (Some i) at =
-      let n : 16 ≡ i + suc (15 - i) = omega (arith, at.1) in
-      let e : 0 + i ≡ i = omega arith in
-      let p : first_in regs 0 (i + suc (15 - i)) ≡ first_in regs i (suc (15 - i)) = rw e at (passed i 0 (suc (15 - i)) (λ j a b. at.3 j a (omega arith))) in
-      rw n (sym (p ∙ hit i (15 - i) at.2))
+pub first_none : (regs : List ℕ) → first_in regs 16 0 ≡ 16
+unfolding first_in
+first_none regs = refl
