@@ -26,7 +26,7 @@ fn double(t: &mut [u64; 256], step: u8, w: usize, bit: u64)
 
 // What eight pixels are for each byte, as one number: `step` for each bit that is set, the first pixel in the lowest byte.
 fn fill(t: &mut [u64; 256], step: u8)
-    requires { (length t.old ≡ 256) × (3 * step < 256) }
+    requires { 3 * step < 256 }
     ensures { Built step 256 t.new }
 {
     t[0] = 0;
@@ -62,7 +62,7 @@ fn eight(ram: &[u8], t: &[u64; 256], x: usize, y: usize, negative: bool) -> u64
 }
 
 // All pixels, row by row, eight at a time: `step` for the low bit and twice that for the high bit, or the negative of it. Shades by 1, greys by 85.
-// Two times eight are read before they are put, so that the two stores can be one.
+// Two times eight are read before they are put, so that the two stores can be one. The bytes of eight pixels stand apart in the RAM: no slice holds a row.
 pub fn put_tones(ram: &[u8], step: u8, negative: bool, pixels: &mut [u8])
     requires in_bounds { (8192 ≤ length ram.now) × (length pixels.old ≡ 14336) }
     requires step_bound { 3 * step < 256 }

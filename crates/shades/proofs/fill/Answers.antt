@@ -5,12 +5,12 @@ use Rattle.shades.proofs.Tones.{built_none, built_to, weight_at, power}
 use Rattle.shades.proofs.fill.Goals as goal
 
 pub loop-k-init : goal.loop-k-init
-loop-k-init c = built_none _ c.args.t.now c.requires.0
+loop-k-init c = built_none _ c.args.t.now (omega arith)
 
 pub double-requires : goal.double-requires
 double-requires c =
     let l = c.loop-k in
-    (built_to l.invariant (sym (power l.k (omega arith)).0), c.requires.1, weight_at l.k (omega arith))
+    (built_to l.invariant (sym (power l.k (omega arith)).0), c.requires, weight_at l.k (omega arith))
 
 pub returns : goal.returns
 returns c =
