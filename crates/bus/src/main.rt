@@ -67,6 +67,7 @@ fn play(
     requires { (length piece.now ≤ 65536) × (11 ≤ length out.old) }
 {
     let mut at = 0;
+    // no iterator: how far a turn goes is what `feed` answers
     while at < piece.len() {
         at += play_some(sink, session, rom, ram, store, image, &piece[at..], out)?;
     }

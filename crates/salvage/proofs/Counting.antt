@@ -1,5 +1,5 @@
 -- A report counted: `counted` is what std counts. Assumes nothing.
-use Rattle.std.proofs.Common.{◌≡◌, ℕ, List, [], ◌∷◌, eqb, count_by, refl, arith}
+use Rattle.std.proofs.Common.{◌≡◌, ℕ, List, eqb, count_by, refl, arith}
 use Rattle.std.proofs.lemmas.List.Recursion.{is_count_by}
 use Rattle.laws.proofs.Bools.{either}
 use Rattle.salvage.specs.Counted.{counted}

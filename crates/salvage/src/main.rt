@@ -6,7 +6,7 @@ ghost use Rattle.std.specs.Counts.{IsPrefixLen};
 ghost use Rattle.salvage.specs.Counted.{counted};
 
 use salvaging::Salvaged;
-use salvaging::put::{KEPT, MALFORMED, REPEATED};
+use salvaging::put::Mark;
 use std::io::{self, Read, Write};
 
 // Words of the sentence. Where it cannot be written, nothing more can be said.
@@ -31,6 +31,7 @@ fn gather(source: &mut impl Read, buf: &mut [u8]) -> io::Result<usize>
     ensures { IfOk result (λ n. IsPrefixLen n buf.new) }
 {
     let mut at = 0;
+    // no iterator: how far a turn goes is what `read` answers
     while at < buf.len() {
         let more = source.read(&mut buf[at..])?;
         if more == 0 {
@@ -51,11 +52,11 @@ fn count(report: &[u8], m: u8) -> usize
 // So many lines kept, malformed, repeated.
 fn tell(rt: &impl Eprint, report: &[u8]) {
     say(rt, "salvage: ");
-    number(rt, count(report, KEPT) as u64);
+    number(rt, count(report, u8::from(Mark::Kept)) as u64);
     say(rt, " lines kept, ");
-    number(rt, count(report, MALFORMED) as u64);
+    number(rt, count(report, u8::from(Mark::Malformed)) as u64);
     say(rt, " malformed, ");
-    number(rt, count(report, REPEATED) as u64);
+    number(rt, count(report, u8::from(Mark::Repeated)) as u64);
     say(rt, " repeated\n");
 }
 

@@ -4,13 +4,12 @@ use mathlib.Core.Bool.{Bool}
 use mathlib.Core.List.{List, [], ◌∷◌, ◌++◌}
 use Prim.Native.Nat.{ℕ, zero, suc, ◌+◌, ◌-◌, ◌<◌, ◌≤◌}
 use native.Mathlib.Omega.{arith}
-use lib.ListN.{length, take, drop, set, length-append, length-drop}
-use lib.Seq.{length-take-le, drop-drop}
+use lib.ListN.{length, take, drop, set, length-append}
+use lib.Seq.{drop-drop}
 use Rattle.lines.specs.Hex.{placed}
 use Rattle.recording.specs.Record.{ended}
 use Rattle.lines.proofs.Placed.{placed_one, placed_next, length_placed}
 use Rattle.salvaging.specs.Kept.{accepted, text_of, kept_or, mark_of, left_after, marks}
-use Rattle.salvaging.specs.Aside.{between}
 
 -- ---- a byte after a text that was put
 
@@ -43,17 +42,10 @@ pub text_longer : (n : ℕ) {lines rest : List (List ℕ)} {line : List ℕ} →
 text_longer n {lines} {rest} {line} h e =
     ap length (text_next n h e) ∙ length-append (ended line) (text_of (take (n - 1) rest)) ∙ ap (λ k. k + length (text_of (take (n - 1) rest))) (ended_long line)
 
-pub text_none : (n : ℕ) (lines : List (List ℕ)) → n ≡ 0 → text_of (take n lines) ≡ []
-unfolding text_of
-text_none n lines e = rw e
-
 pub text_over : (n : ℕ) (lines : List (List ℕ)) → (0 < n → lines ≡ []) → text_of (take n lines) ≡ []
 unfolding text_of
 text_over zero lines e = refl
 text_over (suc n) lines e = let h : lines ≡ [] = e (omega arith) in rw h
-
-pub between_long : (s : List ℕ) (from end : ℕ) → from ≤ end → end ≤ length s → length (between s from end) ≡ end - from
-between_long s from end h k = length-take-le (end - from) (drop from s) (rw length-drop (omega arith))
 
 -- what is still to be put, from here and from the start, comes to the same
 pub put_next : (text : List ℕ) (out : ℕ) (line rest whole : List ℕ) (out' : ℕ) → out ≤ length text → out' ≡ out + length (ended line) → whole ≡ ended line ++ rest

@@ -7,14 +7,13 @@ use Prim.Native.Nat.{ℕ, zero, suc, ◌+◌, ◌-◌, ◌/◌, ◌%◌, ◌<◌
 use native.Mathlib.Omega.{arith}
 use lib.Dec.{eqb}
 use lib.Pointwise.{pointwise}
-use lib.ListN.{length, get_or, take, drop, length-take, length-drop, length-append, take-append-drop}
+use lib.ListN.{length, take, drop, length-take, length-drop, length-append, take-append-drop}
 use lib.Seq.{take-add, take_at, drop_at, take-take, take-length, length-take-le}
-use borrow.Author.Tests.{eq-eqb, ne_eqb, eqb-true}
+use borrow.Author.Tests.{eq-eqb, eqb-true}
 use Rattle.laws.specs.Iter.{iter}
 use Rattle.laws.proofs.Iter.{iter_add, iter_cons, iter_fixed}
 use Rattle.laws.proofs.Bools.{either, not_both, both_left, both_right}
 use Rattle.salvaging.specs.Kept.{accepted_of, starts_reset, same_by, same_line, same_lines, earlier, later, doubled, halved, unrepeated, salvaged}
-use Rattle.salvaging.proofs.Walks.{next}
 
 -- ---- the same, element by element
 

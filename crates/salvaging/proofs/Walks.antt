@@ -1,4 +1,4 @@
--- The lines of a script, walked from place to place: laws of `line_length`, `lines_at` and `accepted_at`. Assumes nothing.
+-- The lines of a script, taken one by one: laws of `line_length`, `lines_of` and `accepted_of`. Assumes nothing.
 use Rattle.std.specs.List.{position_or_len, position}
 use Rattle.std.specs.Option.{unwrap_or}
 use Rattle.std.specs.declared.option.Option.{Option}
@@ -6,36 +6,19 @@ use Rattle.std.proofs.lemmas.List.Recursion.{is_position_or_len}
 use mathlib.Core.Path.{◌≡◌, refl, sym, ap, ◌∙◌}
 use mathlib.Core.Bool.{true, false}
 use mathlib.Core.List.{List, [], ◌∷◌}
-use Prim.Native.Nat.{ℕ, zero, suc, ◌+◌, ◌-◌, ◌<◌, ◌≤◌, min}
-use native.Mathlib.Numerals.{add-one}
+use Prim.Native.Nat.{ℕ, suc, ◌+◌, ◌-◌, ◌<◌, ◌≤◌, min}
 use native.Mathlib.Omega.{arith}
 use lib.Dec.{eqb, ltb}
-use lib.ListN.{length, get_or, take, drop, length-drop, drop_of_length-le}
-use lib.Seq.{drop-cons, drop-drop, take_all}
-use borrow.Author.Tests.{eq-eqb, ne_eqb, ltb-false}
+use lib.ListN.{length, take, drop, length-drop, drop_of_length-le}
+use lib.Seq.{take_all}
+use borrow.Author.Tests.{ltb-false}
 use Rattle.laws.proofs.Order.{split}
 use Rattle.laws.proofs.Bools.{either}
 use Rattle.script.specs.Text.{begins, lines_of}
 use Rattle.salvaging.specs.Kept.{accepted, accepted_of}
-use Rattle.salvaging.specs.Aside.{line_length, lines_at, accepted_at, between}
+use Rattle.salvaging.specs.Aside.{line_length, lines_at}
 
 -- ---- where a line ends
-
--- what a text is from byte i on
-pub next : (s : List ℕ) (i : ℕ) → i < length s → drop i s ≡ get_or s i 0 ∷ drop (i + 1) s
-next s i h = drop-cons s i 0 h ∙ ap (λ k. get_or s i 0 ∷ drop k s) (sym (add-one i))
-
-pub ends_here : (s : List ℕ) (i : ℕ) → i < length s → get_or s i 0 ≡ 0x0A → line_length (drop i s) ≡ 0
-unfolding line_length
-ends_here s i h e = ap line_length (next s i h) ∙ simp (eq-eqb (get_or s i 0) 0x0A e)
-
-pub ends_later : (s : List ℕ) (i : ℕ) → i < length s → (get_or s i 0 ≡ 0x0A → ⊥) → line_length (drop i s) ≡ suc (line_length (drop (i + 1) s))
-unfolding line_length
-ends_later s i h e = ap line_length (next s i h) ∙ simp (ne_eqb (get_or s i 0) 0x0A e)
-
-pub ends_there : (s : List ℕ) (i : ℕ) → length s ≤ i → line_length (drop i s) ≡ 0
-unfolding line_length
-ends_there s i h = ap line_length (drop_of_length-le s h)
 
 -- as std looks for it
 pub first_lf : (s : List ℕ) → line_length s ≡ position_or_len (λ b. eqb b 0x0A) s
@@ -76,26 +59,7 @@ line_taken t n k h e inside f =
     past : length t ≤ n → drop (suc n) t ≡ take (length t - (k + 1)) (drop (k + 1) t)
     past l = drop_of_length-le t {i = suc n} (omega arith) ∙ sym (all ∙ drop_of_length-le t {i = k + 1} (omega arith))
 
-module _ (s : List ℕ) (at end : ℕ) (inside : at < length s) (ends : end ≡ at + line_length (drop at s)) where
-  pub line_next : lines_at s at ≡ between s at end ∷ lines_at s (end + 1)
-  line_next =
-      let n = line_length (drop at s) in
-      let long : n ≡ end - at = omega arith in
-      let on : at + suc n ≡ end + 1 = omega arith in
-      lines_next (drop at s) (rw length-drop (omega arith))
-      ∙ ap (λ k. take k (drop at s) ∷ lines_of (drop (suc n) (drop at s))) long
-      ∙ ap (λ r. between s at end ∷ lines_of r) (drop-drop (suc n) at s ∙ ap (λ k. drop k s) on)
-
-  -- an accepted line is the first of those from its place on, and a malformed one is none of them
-  pub accepted_next : accepted (between s at end) ≡ true → accepted_at s at ≡ between s at end ∷ accepted_at s (end + 1)
-  unfolding accepted_of
-  accepted_next t = ap accepted_of line_next ∙ simp t
-
-  pub malformed_next : accepted (between s at end) ≡ false → accepted_at s at ≡ accepted_at s (end + 1)
-  unfolding accepted_of
-  malformed_next t = ap accepted_of line_next ∙ simp t
-
--- the same of lines that were taken one by one
+-- an accepted line is the first of those that are left, and a malformed one is none of them
 pub accepted_first : {lines rest : List (List ℕ)} {line : List ℕ} → lines ≡ line ∷ rest → accepted line ≡ true → accepted_of lines ≡ line ∷ accepted_of rest
 unfolding accepted_of
 accepted_first e t = ap accepted_of e ∙ simp t
@@ -117,18 +81,3 @@ accepted_few (line ∷ lines) = either (accepted line) (λ t. simp t (omega (ari
 pub none_left : (s : List ℕ) (at : ℕ) → length s ≤ at → lines_at s at ≡ []
 unfolding lines_of
 none_left s at h = ap lines_of (drop_of_length-le s h)
-
-pub none_accepted : (s : List ℕ) (at : ℕ) → length s ≤ at → accepted_at s at ≡ []
-unfolding accepted_of
-none_accepted s at h = ap accepted_of (none_left s at h)
-
--- where there is an accepted line, there is a byte
-pub some_left : (s : List ℕ) (at : ℕ) → 0 < length (accepted_at s at) → at < length s
-some_left s at h = split at (length s) (λ l. l) (λ l. absurd (omega (arith, ap length (none_accepted s at l))))
-
--- the lines after the next of n lines
-pub drop_next : (n : ℕ) {lines rest : List (List ℕ)} {line : List ℕ} → 0 < n → lines ≡ line ∷ rest → drop n lines ≡ drop (n - 1) rest
-drop_next zero h e = absurd (omega arith)
-drop_next (suc n) h e =
-    let p : suc n - 1 ≡ n = omega arith in
-    rw (e, p)

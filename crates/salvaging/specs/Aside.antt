@@ -1,6 +1,6 @@
 -- Aside: devices of contracts between functions. Nothing here need be believed: every use of it is tied by a proof to the definitions beside it.
 -- Places in a script: the lines from a place on. Assumes nothing.
-use Rattle.std.specs.Prelude.{◌≡◌, List, [], ◌∷◌, ℕ, suc, ◌+◌, ◌-◌, ◌≤◌, eqb, length, take, drop}
+use Rattle.std.specs.Prelude.{List, [], ◌∷◌, ℕ, suc, eqb, drop}
 use Rattle.laws.specs.Pick.{pick}
 use Rattle.script.specs.Text.{lines_of}
 use Rattle.salvaging.specs.Kept.{accepted_of}
@@ -16,7 +16,3 @@ lines_at script at = lines_of (drop at script)
 
 abbrev pub accepted_at : List ℕ → ℕ → List (List ℕ)
 accepted_at script at = accepted_of (lines_at script at)
-
--- the bytes from one place to another
-abbrev pub between : List ℕ → ℕ → ℕ → List ℕ
-between script from end = take (end - from) (drop from script)

@@ -8,8 +8,8 @@ pub mod twice;
 ghost use Rattle.std.specs.Prelude.{◌≡◌, length};
 ghost use Rattle.salvaging.specs.Salvage.{salvage_means, salvaged_as};
 
-use controller::judge::{no_room, refused_if};
 use controller::Refusal;
+use controller::judge::{no_room, refused_if};
 use place::count_lines;
 use put::{put_report, put_text, text_length};
 use twice::kept;

@@ -45,10 +45,7 @@ fn is_whole(file: &[u8], end: usize) -> bool
 fn is_save(file: &[u8]) -> bool
     ensures { result ≡ is_save file.now }
 {
-    is_sized(file)
-        && has_magic(file)
-        && is_state(&file[7..FRONT])
-        && is_whole(file, file.len() - 4)
+    is_sized(file) && has_magic(file) && is_state(&file[7..FRONT]) && is_whole(file, file.len() - 4)
 }
 
 // Whether a file is a save, and its RAM is of another length.
@@ -73,7 +70,12 @@ fn judge_restore(file: &[u8], state: &[u8], ram: &[u8], store: &[u8]) -> Result<
 }
 
 // A save's state, RAM and frame store, in what is lent.
-pub fn restore(file: &[u8], state: &mut [u8], ram: &mut [u8], store: &mut [u8]) -> Result<(), Refusal>
+pub fn restore(
+    file: &[u8],
+    state: &mut [u8],
+    ram: &mut [u8],
+    store: &mut [u8],
+) -> Result<(), Refusal>
     ensures { restored (write_number result) state.new ram.new store.new
         ≡ restore_means file.now state.old ram.old store.old }
 {

@@ -16,6 +16,7 @@ use short::{line_end, short_lines};
 pub const HELD: usize = 261;
 
 // The first bytes of the line that has begun, and how many of them are held: 261 where it is over 260 bytes.
+// A buffer with a length beside it: there is no heap, and `reader_of`, which theorems speak of, has these two fields.
 #[derive(Clone, Copy)]
 pub struct Reader {
     pub line: [u8; 261],
@@ -120,6 +121,7 @@ pub fn feed(
     let mut at = 0;
     let mut i = 0;
     let mut end = line_end(piece, 0);
+    // no iterator: where a turn goes on is what `short_lines` answers
     while answered(end, piece, out.len() - at) {
         at = end_line(
             &mut bytes,

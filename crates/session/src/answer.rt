@@ -8,7 +8,7 @@ use lines::hex::put_line;
 // The bytes of the longest answer: two digits, eight digits, LF.
 pub const ANSWER: usize = 11;
 
-// The refusal number (0: none), and a value in so many digits.
+// The refusal number (0: none), and a value in so many digits. These are the three that `text_of` prints, so a Result would only be taken apart again.
 #[derive(Clone, Copy)]
 pub struct Answer {
     pub number: u32,

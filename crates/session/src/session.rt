@@ -38,6 +38,7 @@ fn done() -> Answer
     }
 }
 
+// The answers of a read, a write and a tick. No plainer as one: a trait would need an instance for each, as long as these three.
 // After a read the byte.
 fn read_answer(r: Result<u8, Refusal>) -> Answer
     ensures { (text_of result ≡ answer_text (read_number r) 2 (read_value r)) × Short result }

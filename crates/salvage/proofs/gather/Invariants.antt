@@ -1,7 +1,6 @@
 -- The invariant of `salvage::gather`: what is left of the buffer falls. Assumes nothing.
 use lib.ListN.{length}
 use Prim.Native.Nat.{◌≤◌, ◌-◌}
-use mathlib.Core.Path.{◌≡◌}
 use Rattle.salvage.proofs.gather.Given as goal
 
 abbrev pub invariant-loop-at : goal.invariant-loop-at

@@ -18,6 +18,6 @@ pub returns : goal.returns
 unfolding accepted
 returns c =
     elim c.match-matches.branch [
-      in-Malformed w ↦ rw w.matches-is (ap is_frame (sym w.in-Malformed.is ∙ c.frame_of.ensures))
-    | in_default w ↦ rw w.matches-is (sym (some_frame _ w.in_default.not-Malformed) ∙ ap is_frame c.frame_of.ensures)
+      | in-Malformed w ↦ rw w.matches-is (ap is_frame (sym w.in-Malformed.is ∙ c.frame_of.ensures))
+      | in_default w ↦ rw w.matches-is (sym (some_frame _ w.in_default.not-Malformed) ∙ ap is_frame c.frame_of.ensures)
     ]

@@ -1,5 +1,5 @@
 -- `salvaging::place::line_end` meets its contract: the place of the first LF, or the length. Assumes nothing.
-use Rattle.std.proofs.Common.{◌≡◌, ◌∙◌, arith}
+use Rattle.std.proofs.Common.{◌∙◌, arith}
 use Rattle.salvaging.proofs.Walks.{lf_found, lf_within}
 use Rattle.salvaging.proofs.place.line_end.Goals as goal
 

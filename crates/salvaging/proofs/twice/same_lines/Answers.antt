@@ -1,5 +1,5 @@
 -- `salvaging::twice::same_lines` meets its contract: the invariant is that the lines passed are the same. Assumes nothing.
-use Rattle.std.proofs.Common.{◌≡◌, ◌-◌, ◌<◌, ℕ, Bool, true, false, not, ⊎_elim, eqb, sym, refl, ap, ◌∙◌, length, arith}
+use Rattle.std.proofs.Common.{◌≡◌, ◌-◌, false, not, ⊎_elim, eqb, sym, refl, ap, ◌∙◌, length, arith}
 use lib.Pointwise.{pointwise}
 use Rattle.laws.proofs.Order.{split}
 use Rattle.laws.proofs.Bools.{either, not_fails, not_both}
@@ -35,8 +35,8 @@ pub returns : goal.returns
 returns c =
     let l = c.loop-a in
     let none : l.a-iterator.a.n ≡ 0 =
-        ⊎_elim
-        (λ w. split 0 l.a-iterator.a.n (λ p. absurd (omega (arith, l.invariant.0, ap length (w.1 p).0))) (λ p. omega arith))
-        (λ w. omega (arith, l.invariant.1, ap length w.1.0))
-        c.in-None.ensures.steps in
+    ⊎_elim
+    (λ w. split 0 l.a-iterator.a.n (λ p. absurd (omega (arith, l.invariant.0, ap length (w.1 p).0))) (λ p. omega arith))
+    (λ w. omega (arith, l.invariant.1, ap length w.1.0))
+    c.in-None.ensures.steps in
     sym (same_done l.a-iterator.a.n _ _ none) ∙ l.invariant.2

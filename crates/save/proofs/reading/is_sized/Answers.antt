@@ -1,5 +1,5 @@
 -- `save::reading::is_sized` meets its contract: the banks that it names, and its length. Assumes nothing.
-use Rattle.std.proofs.Common.{◌≡◌, ℕ, ◌≤◌, length, get_or, ltb, sym, ◌∙◌, arith}
+use Rattle.std.proofs.Common.{◌≡◌, length, get_or, sym, ◌∙◌, arith}
 use borrow.Author.Tests.{ltb-false}
 use Rattle.save.specs.Restore.{is_sized}
 use Rattle.save.proofs.Restored.{short}

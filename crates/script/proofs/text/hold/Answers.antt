@@ -1,5 +1,5 @@
 -- `script::text::hold` meets its contract: as many of the bytes as there is room for are put after those that were held. Assumes nothing.
-use Rattle.std.proofs.Common.{◌≡◌, ◌+◌, ◌-◌, length, take, sym, ap, ◌∙◌, arith, length-take, length-take-le}
+use Rattle.std.proofs.Common.{◌+◌, ◌-◌, take, sym, ap, ◌∙◌, arith, length-take, length-take-le}
 use Rattle.lines.specs.Hex.{placed}
 use Rattle.script.proofs.Feeds.{few_taken, placed_part}
 use Rattle.script.proofs.text.hold.Goals as goal

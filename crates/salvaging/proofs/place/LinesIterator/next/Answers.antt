@@ -1,5 +1,5 @@
 -- `next` of the lines of a script meets its contract: the first line, and what is left past its LF. Assumes nothing.
-use Rattle.std.proofs.Common.{◌≡◌, ◌+◌, ◌-◌, ◌<◌, List, ◌∷◌, [], ℕ, length, take, drop, ap, sym, ◌∙◌, arith, rules}
+use Rattle.std.proofs.Common.{◌≡◌, [], length, ap, arith, rules}
 use Rattle.script.specs.Text.{lines_of}
 use Rattle.salvaging.proofs.Walks.{none_left, line_taken}
 use Rattle.salvaging.proofs.place.LinesIterator.next.Goals as goal
