@@ -2,7 +2,6 @@
 #![tactic(auto)]
 
 ghost use Rattle.std.specs.Prelude.{◌<◌, ◌≤◌, IfOk, length};
-ghost use Rattle.std.specs.Counts.{IsPrefixLen};
 
 use controller::Controller;
 use script::text::{Reader, feed, finish};
@@ -13,13 +12,6 @@ use std::io::{self, Read, Write};
 struct Session {
     reader: Reader,
     state: Controller,
-}
-
-// n, but at most the buffer's length: says that what was counted stays within it.
-fn within(n: usize, buf: &[u8]) -> usize
-    ensures { IsPrefixLen result buf.now }
-{
-    n.min(buf.len())
 }
 
 // Plays lines of a piece until their answers fill the buffer, and writes the answers: how much of the piece was played.
@@ -48,8 +40,7 @@ fn play_some(
     );
     session.reader = fed.reader;
     session.state = fed.state;
-    let n = within(fed.written, out);
-    sink.write_all(&out[..n])?;
+    sink.write_all(&out[..fed.written.min(out.len())])?;
     Ok(fed.used)
 }
 
@@ -120,9 +111,7 @@ fn end(
     image: &mut [u8],
 ) {
     let done = finish(last.reader, last.state, rom, ram, store, image);
-    let text = done.text;
-    let n = within(done.length, &text);
-    let _ = sink.write_all(&text[..n]);
+    let _ = sink.write_all(&done.text[..done.length]);
 }
 
 fn main(rt: HostRuntime) {

@@ -67,7 +67,7 @@ pub fn record_tick(cycles: u32, out: &mut [u8]) -> Result<usize, Refusal>
     record_digits(3, 8, cycles, out)
 }
 
-// Puts bytes into a buffer, two digits each.
+// Puts bytes into a buffer, two digits each. (By place: after a zip with `iter_mut` a proof knows nothing of what was written.)
 pub fn put_bytes(out: &mut [u8], at: usize, bytes: &[u8])
     requires { at + 2 * length bytes.now ≤ length out.old }
     ensures { out.new ≡ placed out.old at (row_hex bytes.now) }

@@ -19,13 +19,6 @@ fn number(rt: &impl Eprint, n: u64) {
     let _ = rt.eprint(n);
 }
 
-// n, but at most the buffer's length: says that what was counted stays within it.
-fn within(n: usize, buf: &[u8]) -> usize
-    ensures { IsPrefixLen result buf.now }
-{
-    n.min(buf.len())
-}
-
 // Reads until the buffer is full or the input ends: how many bytes. A read that fails is not the end of the input.
 fn gather(source: &mut impl Read, buf: &mut [u8]) -> io::Result<usize>
     ensures { IfOk result (λ n. IsPrefixLen n buf.new) }
@@ -79,9 +72,12 @@ fn clean(
 ) {
     match salvaging::salvage(script, text, report) {
         Ok(Salvaged { length, lines }) => {
-            let n = within(length, text);
-            let m = within(lines, report);
-            finish(rt, sink, &text[..n], &report[..m]);
+            finish(
+                rt,
+                sink,
+                &text[..length.min(text.len())],
+                &report[..lines.min(report.len())],
+            );
         }
         Err(why) => {
             say(rt, "salvage: refused by ");
@@ -100,8 +96,8 @@ fn main(rt: HostRuntime) {
     let mut sink = rt.stdout();
     match gather(&mut source, &mut script) {
         Ok(length) => {
-            let n = within(length, &script);
-            clean(&rt, &mut sink, &script[..n], &mut text, &mut report);
+            let script = &script[..length.min(script.len())];
+            clean(&rt, &mut sink, script, &mut text, &mut report);
         }
         Err(_) => say(
             &rt,

@@ -77,7 +77,7 @@ fn tick_answer(r: Result<Cycles, Refusal>) -> Answer
     }
 }
 
-// Takes the 128 bytes of row y from a line.
+// Takes the 128 bytes of row y from a line. (By place: after a zip with `iter_mut` a proof knows nothing of what was written.)
 fn take_row(image: &mut [u8], line: &[u8], y: usize)
     requires { (length line.now ≡ 260) × (hex_part line.now 0 260 ≡ true) × (128 * y + 128 ≤ length image.old) }
     ensures { image.new ≡ row_taken line.now y 128 image.old }
