@@ -1,5 +1,5 @@
 // What is seen of a record's bytes, where they stand.
-ghost use Rattle.std.specs.Prelude.{◌≡◌, true, ◌&&◌, not, ◌/◌, ◌%◌, ◌≤◌, ◌<◌, eqb, length};
+ghost use Rattle.std.specs.Prelude.{◌≡◌, true, ◌/◌, ◌%◌, ◌≤◌, ◌<◌, length};
 ghost use Rattle.layout.specs.Layout.{is_record, two_at, decoded};
 ghost use Rattle.events.specs.Aside.{sight_of, takes_writes, place_by};
 
