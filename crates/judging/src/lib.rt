@@ -19,7 +19,7 @@ fn same_row(plate: &[u8; 3584], picture: &[u8; 3584], y: usize) -> bool
     ensures { result ≡ row_same plate.now picture.now y }
 {
     let at = 256 * (y / 8) + 2 * (y % 8);
-    // By place: a tile's two bytes stand sixteen apart from the next one's, so there is no slice to go over.
+    // The two bytes of each tile stand apart from those of the next: no slice holds a row.
     for t in 0..16 {
         let low = at + 16 * t;
         let high = low + 1;

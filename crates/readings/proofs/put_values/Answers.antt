@@ -2,12 +2,9 @@
 use mathlib.Core.Path.{◌≡◌, ◌∙◌}
 use Prim.Native.Nat.{◌+◌, ◌-◌, ◌*◌}
 use native.Mathlib.Omega.{arith}
-use Rattle.laws.proofs.Filled.{filled_none, filled_end, filled_to}
+use Rattle.laws.proofs.Filled.{filled_end, filled_to}
 use Rattle.readings.proofs.Parts.{filled_part, row_listed}
 use Rattle.readings.proofs.put_values.Goals as goal
-
-pub loop-y-init : goal.loop-y-init
-loop-y-init c = (omega arith, c.first_row.ensures, filled_none _ _ (omega arith))
 
 pub loop-y-preserved : goal.loop-y-preserved
 loop-y-preserved c =
