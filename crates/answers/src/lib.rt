@@ -99,6 +99,7 @@ impl Value for usize {
 }
 
 // A number and a value, packed.
+#[tactic(auto, unfolding(crate::specs::Packed::packed))]
 pub fn pack(number: u32, value: u32) -> u64
     ensures { result ≡ packed number value }
 {
