@@ -5,8 +5,8 @@ ghost use Rattle.controller.specs.Table.{lowest};
 ghost use Rattle.recorder.specs.Steps.{stepped, step_rows, step_bytes};
 
 use answers::{pack, refused};
-use controller::judge::{no_room, refused_if};
 use controller::Refusal;
+use controller::judge::{no_room, refused_if};
 use layout::is_record;
 use session::answer::ANSWER;
 use session::session::line_done;

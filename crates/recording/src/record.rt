@@ -5,8 +5,8 @@ ghost use Rattle.controller.specs.Table.{before, lowest};
 ghost use Rattle.lines.specs.Hex.{hex_text, placed};
 ghost use Rattle.recording.specs.Record.{row_hex, row_line, row_allowed, ended, too_short, record_rows, line_means, record_means, recorded};
 
-use controller::judge::refused_if;
 use controller::Refusal;
+use controller::judge::refused_if;
 use lines::hex::{digit_byte, put_digits, put_line};
 use lines::line::Frame;
 

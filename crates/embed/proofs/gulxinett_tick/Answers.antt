@@ -36,14 +36,14 @@ pub unwrap-store-requires : goal.unwrap-store-requires
 unwrap-store-requires c =
     let a = c.args in
     let t = tick_runs a.state.now a.ram.now a.store.now a.cycles (sym c.is_record.ensures ∙ c.if-not-is_record.false) c.judge_tick.result c.judge_tick.ensures c.in_default.is
-        (sym c.runs.ensures ∙ c.if-not-runs.false) in
+    (sym c.runs.ensures ∙ c.if-not-runs.false) in
     c.try_into.ensures.0 t.4
 
 pub run-requires : goal.run-requires
 run-requires c =
     let a = c.args in
     let t = tick_runs a.state.now a.ram.now a.store.now a.cycles (sym c.is_record.ensures ∙ c.if-not-is_record.false) c.judge_tick.result c.judge_tick.ensures c.in_default.is
-        (sym c.runs.ensures ∙ c.if-not-runs.false) in
+    (sym c.runs.ensures ∙ c.if-not-runs.false) in
     (t.0, t.1, t.2, t.3)
 
 pub returns : goal.returns
