@@ -17,36 +17,27 @@ use pieces::{end_audited, piece_audited};
 use timing::ram_allowed;
 
 // A book of 13 numbers, and room for an event.
+#[tactic(auto, unfolding(crate::specs::Audits::room))]
 fn has_room(book: &[u64], out: &[u8]) -> bool
     ensures { result ≡ room book.now out.now }
 {
-    if book.len() != 13 {
-        return false;
-    }
-    512 <= out.len()
+    book.len() == 13 && 512 <= out.len()
 }
 
 // The same, and room for a line.
+#[tactic(auto, unfolding(crate::specs::Audits::fits))]
 fn has_sizes(book: &[u64], line: &[u8], out: &[u8]) -> bool
     ensures { result ≡ fits book.now line.now out.now }
 {
-    if book.len() != 13 {
-        return false;
-    }
-    if line.len() != 261 {
-        return false;
-    }
-    512 <= out.len()
+    book.len() == 13 && line.len() == 261 && 512 <= out.len()
 }
 
 // The RAM now and at first.
+#[tactic(auto, unfolding(crate::specs::Audits::same_ram))]
 fn same_ram(first: &[u8], ram: &[u8]) -> bool
     ensures { result ≡ same_ram first.now ram.now }
 {
-    if ram_allowed(ram.len()) {
-        return first.len() == ram.len();
-    }
-    false
+    ram_allowed(ram.len()) && first.len() == ram.len()
 }
 
 // What an audit is lent, judged: 1, then 7.
@@ -80,20 +71,14 @@ fn judge_summary(book: &[u64], state: &[u8], out: &[u8]) -> Result<(), Refusal>
 fn countable(piece: &[u8]) -> usize
     ensures { (take result piece.now ≡ lent piece.now) × (result ≤ length piece.now) × (result ≤ 4294967295) }
 {
-    if piece.len() < 4294967295 {
-        return piece.len();
-    }
-    4294967295
+    piece.len().min(4294967295)
 }
 
 // A place, but no further than the RAM's end.
 fn place_in(from: u32, length: usize) -> usize
     ensures { (result ≡ min from length) × (result ≤ length) }
 {
-    if (from as usize) < length {
-        return from as usize;
-    }
-    length
+    (from as usize).min(length)
 }
 
 // Audits a piece of a recording, up to its first LF and with it. The answer's value is how many bytes of it were read.
