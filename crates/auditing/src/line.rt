@@ -1,4 +1,5 @@
 // One line of a recording: it is carried out, counted, and its event is put into a lent buffer.
+// The book and what a session is lent stay slices, one parameter each: `events::book` and `short` say why.
 ghost use Rattle.std.specs.Prelude.{◌≡◌, true, Some, ◌+◌, ◌≤◌, length};
 ghost use Rattle.timing.specs.Lent.{ram_allowed};
 ghost use Rattle.layout.specs.Layout.{is_record, decoded};
@@ -16,6 +17,7 @@ use session::session::carry_out;
 
 // Whether a frame is malformed.
 #[tactic(auto, unfolding(crate::specs::Line::is_malformed))]
+// (Not the one of `short`, which this crate does not need.)
 fn is_malformed(frame: Frame) -> bool
     ensures { result ≡ is_malformed frame }
 {

@@ -2,6 +2,8 @@
 // Only a start and the end of a capture, which change half of the record, have it read and written whole.
 // `cartridge` does the same over a record. One generic function over both is no plainer: a trait would have a reader, a writer and their laws for each field,
 // where a law here is one byte that is changed.
+// That the bytes are a record, and how long RAM and store are, stay clauses: C lends all three as slices, and of a slice that a struct held nothing is known
+// once the struct is let go.
 #![tactic(auto, using(layout::proofs::Inverse::record_long))]
 
 ghost use Rattle.std.specs.Prelude.{◌≡◌, true, [], ◌<◌, ◌≤◌, length};

@@ -1,4 +1,5 @@
 // Captures: what a tick does with the state record, the RAM and the frame store lent.
+// The RAM stays a slice whose least length a clause says: C lends it, of 1 to 16 banks.
 #![tactic(auto)]
 
 ghost use Rattle.std.specs.Prelude.{◌≡◌, Bool, true, false, ◌&&◌, List, [], ◌∷◌, ℕ, ◌+◌, ◌*◌, ◌/◌, ◌%◌, ◌<◌, ◌≤◌, length, get_or};

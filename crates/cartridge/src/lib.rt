@@ -200,6 +200,7 @@ fn begin(mut state: Controller, value: u8) -> Controller
 
 // A write of register 0. A start lights the image into the store, by the registers just taken.
 #[tactic(auto, unfolding(crate::specs::Bus::capture_written, crate::specs::Bus::store_written, crate::specs::Bus::with_register, capture::specs::Capture::begun))]
+// The store is written, so it stays a slice: of one that is lent on as an array nothing is known afterwards.
 pub fn capture_write(
     mut state: Controller,
     store: &mut [u8],

@@ -98,6 +98,7 @@ fn put_stretch(
 
 // Puts the event of the first stretch from a place on, or that nothing changed, at the start of a buffer.
 #[tactic(auto, using(crate::proofs::Stretches::begins_within, crate::proofs::Stretches::ends_within, crate::proofs::Stretches::stretch_some), unfolding(crate::specs::Changes::change_text))]
+// It takes two slices and no `Compared`: C lends them.
 pub fn change_put(first: &[u8], ram: &[u8], from: usize, line: u64, out: &mut [u8]) -> Change
     requires { (256 ≤ length out.old) × (length first.now ≡ length ram.now) × (length ram.now ≤ 131072) × (from ≤ length ram.now) }
     ensures put { Put out.old 0 (change_text line first.now ram.now from) 256 out.new result.written }

@@ -3,7 +3,7 @@ use Rattle.std.proofs.Common.{◌≡◌, ℕ, List, []}
 use Rattle.std.specs.Prelude.{⊤}
 use Rattle.std.specs.declared.result.Result.{Result}
 use Rattle.controller.specs.declared.Refusal.{Refusal}
-use Rattle.controller.specs.declared.WriteDone.{WriteDone}
+use Rattle.controller.specs.declared.Done.{Done}
 use Rattle.controller.specs.State.{reset_state}
 use Rattle.controller.specs.Outcome.{outcome, write_number}
 use Rattle.controller.specs.Picture.{afresh}
@@ -15,5 +15,5 @@ only_picture r s bytes bytes' e =
     let o = only_write (done r) (done s) bytes bytes' [] [] (λ i. outcome (e i).number 0 reset_state (e i).bytes []) in
     (λ i. (o.0 i).answer, o.1)
   where
-    done : Result ⊤ Refusal → WriteDone
+    done : Result ⊤ Refusal → Done ⊤
     done a = record { state = reset_state; answer = a }

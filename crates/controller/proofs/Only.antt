@@ -7,9 +7,7 @@ use Rattle.std.specs.Prelude.{⊤, Some, None, Ok, Err}
 use Rattle.std.specs.declared.option.Option.{Option}
 use Rattle.std.specs.declared.result.Result.{Result}
 use Rattle.timing.specs.declared.Cycles.{Cycles}
-use Rattle.controller.specs.declared.ReadDone.{ReadDone}
-use Rattle.controller.specs.declared.WriteDone.{WriteDone}
-use Rattle.controller.specs.declared.TickDone.{TickDone}
+use Rattle.controller.specs.declared.Done.{Done}
 use Rattle.controller.specs.Outcome.{number_of, read_number, read_value, read_outcome, write_number, write_outcome, tick_number, tick_value, tick_outcome, inspection}
 
 -- the refusal of a number
@@ -80,19 +78,19 @@ tick_answer_lem (Err r) (Ok y) n v = absurd (some_number r (sym n))
 tick_answer_lem (Err r) (Err s) n v = ap Err (only_number r s n)
 
 -- a read: one answer and one state
-pub only_read : (r s : ReadDone) (ram ram' : List ℕ) → read_outcome r ram ≡ read_outcome s ram' → (r ≡ s) × (ram ≡ ram')
+pub only_read : (r s : Done ℕ) (ram ram' : List ℕ) → read_outcome r ram ≡ read_outcome s ram' → (r ≡ s) × (ram ≡ ram')
 only_read r s ram ram' e =
     let a = read_answer r.answer s.answer (λ i. (e i).number) (λ i. (e i).value) in
     (λ i. record { state = (e i).state; answer = a i }, λ i. (e i).ram)
 
 -- a write: one answer, one state, one RAM and one frame store
-pub only_write : (r s : WriteDone) (ram ram' store store' : List ℕ) → write_outcome r ram store ≡ write_outcome s ram' store' → (r ≡ s) × (ram ≡ ram') × (store ≡ store')
+pub only_write : (r s : Done ⊤) (ram ram' store store' : List ℕ) → write_outcome r ram store ≡ write_outcome s ram' store' → (r ≡ s) × (ram ≡ ram') × (store ≡ store')
 only_write r s ram ram' store store' e =
     let a = write_answer_lem r.answer s.answer (λ i. (e i).number) in
     (λ i. record { state = (e i).state; answer = a i }, λ i. (e i).ram, λ i. (e i).store)
 
 -- a tick: one count, one state, one RAM
-pub only_tick : (r s : TickDone) (ram ram' store store' : List ℕ) → tick_outcome r ram store ≡ tick_outcome s ram' store' → (r ≡ s) × (ram ≡ ram') × (store ≡ store')
+pub only_tick : (r s : Done Cycles) (ram ram' store store' : List ℕ) → tick_outcome r ram store ≡ tick_outcome s ram' store' → (r ≡ s) × (ram ≡ ram') × (store ≡ store')
 only_tick r s ram ram' store store' e =
     let a = tick_answer_lem r.answer s.answer (λ i. (e i).number) (λ i. (e i).value) in
     (λ i. record { state = (e i).state; answer = a i }, λ i. (e i).ram, λ i. (e i).store)

@@ -7,9 +7,7 @@ use Rattle.controller.specs.declared.Controller.{Controller}
 use Rattle.controller.specs.declared.Refusal.{Refusal}
 use Rattle.controller.specs.declared.Refusal.TheVariants.{State, Rom, Ram, Frame, Address, Line, Room, File, Choice, Held, NotHeld, Script}
 use Rattle.controller.specs.declared.Element.{Element}
-use Rattle.controller.specs.declared.ReadDone.{ReadDone}
-use Rattle.controller.specs.declared.WriteDone.{WriteDone}
-use Rattle.controller.specs.declared.TickDone.{TickDone}
+use Rattle.controller.specs.declared.Done.{Done}
 
 -- The numbers of the table: 1 the state record can't exist, 2 ROM length, 3 RAM length, 4 image or frame store, 5 address, 6 a script line, 7 a
 -- buffer lent is too short, 8 a file, 9 a choice, 10 a capture is held, 11 no capture is held, 12 a script over 32,768 bytes
@@ -56,7 +54,7 @@ abbrev pub read_value : Result ℕ Refusal → ℕ
 read_value (Ok b) = b
 read_value (Err n) = 0
 
-abbrev pub read_outcome : ReadDone → List ℕ → Outcome
+abbrev pub read_outcome : Done ℕ → List ℕ → Outcome
 read_outcome r ram = outcome (read_number r.answer) (read_value r.answer) r.state ram []
 
 -- a write returns nothing but its number
@@ -64,7 +62,7 @@ abbrev pub write_number : Result ⊤ Refusal → ℕ
 write_number (Ok _) = 0
 write_number (Err n) = number_of n
 
-abbrev pub write_outcome : WriteDone → List ℕ → List ℕ → Outcome
+abbrev pub write_outcome : Done ⊤ → List ℕ → List ℕ → Outcome
 write_outcome r ram store = outcome (write_number r.answer) 0 r.state ram store
 
 -- a refused tick 0 cycles
@@ -76,7 +74,7 @@ abbrev pub tick_value : Result Cycles Refusal → ℕ
 tick_value (Ok n) = n.0
 tick_value (Err n) = 0
 
-abbrev pub tick_outcome : TickDone → List ℕ → List ℕ → Outcome
+abbrev pub tick_outcome : Done Cycles → List ℕ → List ℕ → Outcome
 tick_outcome r ram store = outcome (tick_number r.answer) (tick_value r.answer) r.state ram store
 
 -- a matrix inspection: refusal number, whether there is an element, and its row and column

@@ -9,6 +9,8 @@ pub mod state;
 
 use timing::Cycles;
 
+// What is held stands beside `held` and in no Option: a record with something left over where nothing is held is a value too, which is refused by 1
+// (`State.left_over`), and the record's bytes have each field.
 // The state record; captures started, and those that reached their end, are counted since reset.
 #[derive(Clone, Copy)]
 pub struct Controller {
@@ -49,19 +51,13 @@ pub struct Element {
 
 // The state handed back, and the answer: the byte, nothing, or how many cycles ran; or why it is refused.
 #[derive(Clone, Copy)]
-pub struct ReadDone {
+pub struct Done<T> {
     pub state: Controller,
-    pub answer: Result<u8, Refusal>,
+    pub answer: Result<T, Refusal>,
 }
 
-#[derive(Clone, Copy)]
-pub struct WriteDone {
-    pub state: Controller,
-    pub answer: Result<(), Refusal>,
-}
+pub type ReadDone = Done<u8>;
 
-#[derive(Clone, Copy)]
-pub struct TickDone {
-    pub state: Controller,
-    pub answer: Result<Cycles, Refusal>,
-}
+pub type WriteDone = Done<()>;
+
+pub type TickDone = Done<Cycles>;

@@ -7,7 +7,8 @@ use lib.Dec.{eqb, ltb}
 use borrow.Author.Tests.{ltb-false}
 use Rattle.laws.specs.Pick.{pick}
 use Rattle.controller.specs.declared.Controller.{Controller}
-use Rattle.controller.specs.declared.WriteDone.{WriteDone}
+use Rattle.controller.specs.declared.Done.{Done}
+use Rattle.std.specs.Prelude.{⊤}
 use Rattle.controller.specs.State.{cant_exist}
 use Rattle.controller.specs.Outcome.{write_outcome}
 use Rattle.controller.specs.Outcome.{refusal}
@@ -53,7 +54,7 @@ module _ (c : Controller) (light level : ℕ) where
       by_test false = refl
 
 -- one answer and one state
-pub only_choose : (r s : WriteDone) → write_outcome r [] [] ≡ write_outcome s [] [] → r ≡ s
+pub only_choose : (r s : Done ⊤) → write_outcome r [] [] ≡ write_outcome s [] [] → r ≡ s
 only_choose r s e = (only_write r s [] [] [] [] e).0
 
 -- the choices known by name are ones of the table: a state that can exist is never refused one

@@ -77,6 +77,7 @@ fn judge_choice(state: Controller, light: u8, level: u8) -> Result<(), Refusal>
 }
 
 // A choice: the matrix of a light set and a level, with its dithering or without (plain), and an exposure.
+// The four of a choice stay numbers, and apart: C gives them, refusal 9 is for a light set above 1 and a level above 15, and `choose_means` speaks of each.
 pub fn choose(state: Controller, light: u8, level: u8, plain: bool, exposure: Option<u16>) -> Chosen
     ensures { write_outcome result [] [] ≡ choose_means state light level plain exposure }
 {

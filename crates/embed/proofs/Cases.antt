@@ -11,7 +11,7 @@ use Rattle.std.specs.declared.result.Result.{Result}
 use Rattle.std.specs.declared.option.Option.{Option}
 use Rattle.std.specs.Prelude.{⊤, Ok, Err}
 use Rattle.controller.specs.declared.Element.{Element}
-use Rattle.controller.specs.declared.WriteDone.{WriteDone}
+use Rattle.controller.specs.declared.Done.{Done}
 use Rattle.controller.specs.State.{reset_state}
 use Rattle.tiles.specs.Tiles.{Bytes}
 use Rattle.controller.specs.Outcome.{Outcome, outcome, number_of, write_number, write_outcome, inspection}
@@ -91,7 +91,7 @@ module _ (s : List ℕ) (light level plain exposure : ℕ) where
   unfolding choose_bytes
   choose_done h = simp h
 
-  module _ (h : is_record s ≡ true) (d : Controller) (x : Option ℕ) (r : WriteDone) (e : d ≡ decoded s) (named : x ≡ exposure_in exposure) (means : write_outcome r [] [] ≡ choose_means d light level (plain_in plain) x) where
+  module _ (h : is_record s ≡ true) (d : Controller) (x : Option ℕ) (r : Done ⊤) (e : d ≡ decoded s) (named : x ≡ exposure_in exposure) (means : write_outcome r [] [] ≡ choose_means d light level (plain_in plain) x) where
     choose_is : (y : Result ⊤ Refusal) → r.answer ≡ y → outcome (write_number y) 0 r.state [] [] ≡ choice (decoded s)
     choose_is y f =
         ap (λ z. outcome (write_number z) 0 r.state [] []) (sym f) ∙ means ∙ ap (λ z. choose_means d light level (plain_in plain) z) named ∙ ap choice e

@@ -163,6 +163,7 @@ fn end_of(book: &[u64], serial: u16, cycles: u64, plate: u32) -> Seen
 
 // The event of a line, by its kind; where there is none, nothing that it may say is worked out.
 #[tactic(auto, unfolding(crate::specs::Aside::event_by, crate::specs::Aside::event_from))]
+// That the RAM's length is allowed stays a clause: it is asked only where a capture ends.
 pub fn event_of(
     kind: Option<Kind>,
     book: &[u64],

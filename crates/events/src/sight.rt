@@ -7,6 +7,7 @@ use capture::is_running;
 use cartridge::registers_on;
 use layout::four_at;
 
+// No Option of what is held: serial and elapsed are read where none is held too.
 // Of a record: whether a capture is held and whether it runs, its serial and its elapsed cycles, select, and whether bus writes at and above 8000h go
 // to the RAM.
 #[derive(Clone, Copy, PartialEq, Eq, Debug)]

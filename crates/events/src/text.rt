@@ -1,4 +1,5 @@
 // The text of an event, in a lent buffer.
+// Buffer and place stay two parameters (`wording::words` says why).
 ghost use Rattle.std.specs.Prelude.{◌≡◌, ◌+◌, ◌≤◌, length};
 ghost use Rattle.wording.specs.Aside.{Put};
 ghost use Rattle.events.specs.Entry.{event_text};

@@ -1,4 +1,5 @@
 // From light to shade, step 4: the filters, one function of nine signed values, whose parameter is the mode.
+// That α is of at most 20 quarters stays a clause: `lighting` says why it is no invariant of a setting.
 #![tactic(auto)]
 
 ghost use Rattle.std.specs.Prelude.{◌≡◌, ◌/◌, ◌<◌, ◌≤◌, IsTrue, pos, nat_abs};

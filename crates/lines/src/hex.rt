@@ -1,4 +1,5 @@
 // The digits of a number, in upper-case hexadecimal.
+// Buffer and place stay two parameters (`wording::words` says why).
 ghost use Rattle.std.specs.Prelude.{◌≡◌, ◌+◌, ◌<◌, ◌≤◌, length};
 ghost use Rattle.lines.specs.Hex.{digit_byte, hex_text, printed, placed};
 

@@ -18,6 +18,7 @@ fn is_reversed(regs: &[u8; 54], row: usize, column: usize) -> bool
 
 // The number of the first reversed element, by rows and then columns; 16 where there is none. Labelled nested loops, as the rules ask for this sentence
 // (docs/RULES.md, "Forms in the code").
+// 16 and no Option: `Matrix.first_in`, whose answer it is, gives 16 where there is none; `inspect` makes the Option of it.
 pub fn first_reversed(regs: &[u8; 54]) -> usize
     ensures { result ≡ first_in regs.now 0 16 }
 {

@@ -20,6 +20,7 @@ fn is_end(b: u8) -> bool
 }
 
 // Where a comment ends that has been entered: after the next LF or CR, or at the end of the text.
+// No plainer by `position`: that counts from the start of what is left, and `Goes` speaks of places in the whole text.
 fn comment_end(text: &[u8], from: usize) -> usize
     requires { from ≤ length text.now }
     ensures { (from ≤ result) × (result ≤ length text.now) × Goes text.now from 2 result }

@@ -1,4 +1,5 @@
 // A recording in pieces, at most one line to a call, and its end.
+// The book and what a session is lent stay slices, one parameter each: `events::book` and `short` say why.
 #![tactic(auto)]
 
 ghost use Rattle.std.specs.Prelude.{◌≡◌, true, ◌+◌, ◌≤◌, length, set};

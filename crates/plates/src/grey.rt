@@ -1,4 +1,5 @@
 // The picture area as a Netpbm file of kind P5, whether or not a capture is running.
+// The RAM stays a slice whose least length a clause says: C lends it, of 1 to 16 banks.
 ghost use Rattle.std.specs.Prelude.{◌≡◌, ◌++◌, ◌≤◌, length, drop};
 ghost use Rattle.laws.specs.Lists.{listed};
 ghost use Rattle.controller.specs.Outcome.{verdict_number};
@@ -16,6 +17,7 @@ pub const HEADER: [u8; 15] = *b"P5\n128 112\n255\n";
 pub const FILE: usize = 14351;
 
 // All pixels, row by row: 85 darker for the low bit and 170 for the high bit.
+// The pixels are written, so they stay a slice.
 fn put_pixels(ram: &[u8], pixels: &mut [u8])
     requires { (8192 ≤ length ram.now) × (length pixels.old ≡ 14336) }
     ensures { pixels.new ≡ listed (grey_at ram.now) 14336 }

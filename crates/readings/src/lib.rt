@@ -18,6 +18,7 @@ use plates::grey::{FILE, put_header};
 use rows::{first_row, next_row};
 
 // All values, row by row: picture row y is sensor row y + 8. What a row needs of the next one is carried on.
+// The values are written, so they stay a slice; by place, since after `chunks_exact_mut` a proof knows nothing of what was written.
 fn put_values(store: &[u8; 16384], set: Setting, values: &mut [u8])
     requires values_len { length values.old ≡ 14336 }
     requires sane { Sane set }

@@ -16,6 +16,7 @@ pub const ROW: usize = 128;
 pub const ROW_LINE: usize = 261;
 
 // 7: the buffer is shorter than the line with its LF.
+// (Not `judge::no_room`: `record_rows` has `too_short`.)
 fn no_room(room: usize, length: usize) -> Result<(), Refusal>
     ensures { verdict_number result ≡ before (too_short room length) 0 }
 {
@@ -31,6 +32,7 @@ fn row_allowed(y: u8, length: usize) -> bool
 }
 
 // Writes a kind, so many digits of a value, and LF: the length of the line with its LF, as each of these functions answers.
+// The kind is a number: it is what is written.
 fn record_digits(kind: u32, digits: usize, value: u32, out: &mut [u8]) -> Result<usize, Refusal>
     requires { digits ≤ 8 }
     ensures { recorded result out.new ≡ line_means false (hex_text 2 kind ++ hex_text digits value) out.old }

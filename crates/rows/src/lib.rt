@@ -1,5 +1,6 @@
 // From light to shade, steps 4 and 5, a row at a time: the values of a row of the sensor, from a store of lit values. Step 4 values are kept as
 // bytes, 128 added to each; where the 1-D filter asks for the row below, a row's are worked out once and carried on to the next row.
+// Where a row may be, and that a setting is in its range, stay clauses, as in `sensor` and `lighting`, which say why.
 #![tactic(auto)]
 
 ghost use Rattle.std.specs.Prelude.{◌≡◌, ◌+◌, ◌<◌, ◌≤◌, IsTrue};

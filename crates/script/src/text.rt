@@ -1,4 +1,6 @@
 // A text to its answers, read in pieces that may be cut anywhere.
+// What a session is lent stays one slice each, with `is_record` as a clause: C lends them, and of a slice that a struct held nothing is known once the struct is
+// let go (`short`).
 ghost use Rattle.std.specs.Prelude.{◌≡◌, true, ◌&&◌, ◌++◌, ◌+◌, ◌-◌, ◌≤◌, min, leb, ltb, length, take};
 ghost use Rattle.layout.specs.Layout.{is_record, decoded};
 ghost use Rattle.lines.specs.Hex.{placed};

@@ -1,4 +1,5 @@
 // From light to shade, steps 4 to 6: one pixel's value and shade, from a store of lit values and the registers taken.
+// Where a pixel may be stays a clause (`Within`): the rows allowed differ, so a struct of column and row would need it still.
 #![tactic(auto)]
 
 pub mod nine;

@@ -1,4 +1,5 @@
 // The answer to a line, and its bytes in upper-case hexadecimal, ended by LF.
+// Buffer and place stay two parameters (`wording::words` says why).
 ghost use Rattle.std.specs.Prelude.{◌≡◌, ◌+◌, ◌≤◌, length};
 ghost use Rattle.lines.specs.Hex.{placed};
 ghost use Rattle.session.specs.Answer.{text_of};

@@ -1,4 +1,6 @@
 // One step of a session: a line is carried out and answered.
+// What a session is lent stays one slice each, with `is_record` as a clause: C lends them, and of a slice that a struct held nothing is known once the struct is
+// let go (`short`).
 ghost use Rattle.std.specs.Prelude.{◌≡◌, true, [], ◌+◌, ◌*◌, ◌≤◌, ◌<◌, length};
 ghost use Rattle.controller.specs.Outcome.{number_of, read_number, read_value, write_number, tick_number, tick_value};
 ghost use Rattle.cartridge.specs.Calls.{read_means, write_means};
@@ -122,6 +124,7 @@ fn do_tick(state: &mut [u8], ram: &mut [u8], store: &[u8], n: u32) -> Answer
 }
 
 // A state as its record's bytes.
+// (No `From`: type and array are of other crates.)
 pub fn bytes_of(c: Controller) -> [u8; 121]
     ensures { (is_record result ≡ true) × (decoded result ≡ c) }
 {
@@ -214,6 +217,7 @@ pub fn line_done(
     put_answer(out, at, answer)
 }
 
+// A buffer with its length beside it: there is no heap, and `said` speaks of both.
 // A line's answer: so many of the bytes of `text`, and the others 0.
 #[derive(Clone, Copy)]
 pub struct Stepped {

@@ -1,4 +1,5 @@
 // The picture area as shades, one a byte, whether or not a capture is running.
+// The RAM stays a slice whose least length a clause says: C lends it, of 1 to 16 banks.
 #![tactic(auto)]
 
 ghost use Rattle.std.specs.Prelude.{◌≡◌, Bool, ◌+◌, ◌-◌, ◌*◌, ◌<◌, ◌≤◌, length};
@@ -44,6 +45,7 @@ fn put_eight(out: &mut [u8], at: usize, v: u64)
 }
 
 // Eight pixels, or the negative of them.
+// As lighting's of one pixel. No plainer as one: a generic one would have a trait with two impls for this line.
 fn turn(v: u64, negative: bool) -> u64
     ensures { result ≡ pick negative (0xFFFFFFFFFFFFFFFF - v) v }
 {
@@ -63,6 +65,8 @@ fn eight(ram: &[u8], t: &[u64; 256], x: usize, y: usize, negative: bool) -> u64
 
 // All pixels, row by row, eight at a time: `step` for the low bit and twice that for the high bit, or the negative of it. Shades by 1, greys by 85.
 // Two times eight are read before they are put, so that the two stores can be one. The bytes of eight pixels stand apart in the RAM: no slice holds a row.
+// The pixels are written, so they stay a slice: of one that is lent on as an array nothing is known afterwards. The bound on the step stays a clause: a const
+// parameter would have the same bound.
 pub fn put_tones(ram: &[u8], step: u8, negative: bool, pixels: &mut [u8])
     requires in_bounds { (8192 ≤ length ram.now) × (length pixels.old ≡ 14336) }
     requires step_bound { 3 * step < 256 }

@@ -80,6 +80,7 @@ fn add_column<R: Turned>(row: &R, b: usize, low: &mut [u8; 16], high: &mut [u8; 
 }
 
 // A row's bits as bytes, one of low bits and one of high bits for each of its sixteen tiles, the first pixel's the highest, into what is zero before.
+// Low and high bits stay two arrays: a vector holds sixteen bytes of one kind.
 pub fn pack<R: Turned>(row: &R, low: &mut [u8; 16], high: &mut [u8; 16])
     requires { (low.old ≡ listed (λ _. 0) 16) × (high.old ≡ listed (λ _. 0) 16) }
     ensures { (low.new ≡ listed (bytes_of (R.low row.now)) 16)

@@ -1,4 +1,5 @@
 // Whole lines of a recording, one after the other, as long as there is room for their events: what a program plays a piece by.
+// The book and what a session is lent stay slices, one parameter each: `events::book` and `short` say why.
 #![tactic(auto)]
 
 mod runs;

@@ -1,5 +1,6 @@
 // Step 7 of light to shade: where a shade stands in the RAM, a range of the picture's pixels put there, and the picture afresh.
 // It knows stores of lit values, registers and RAM bytes, but neither the bus nor time.
+// The RAM stays a slice whose least length a clause says: C lends it, of 1 to 16 banks.
 #![tactic(auto)]
 
 ghost use Rattle.std.specs.Prelude.{◌≡◌, ℕ, ◌+◌, ◌*◌, ◌/◌, ◌%◌, ◌<◌, ◌≤◌, length};
@@ -129,6 +130,7 @@ fn put_parts(ram: &mut [u8], frame: &Frame, from: usize, to: usize)
 }
 
 // Puts the pixels from..to of the picture, in order: whole rows at a time where there are such.
+// Setting and registers are both given, the first worked out once for all pixels.
 pub fn put_pixels(
     ram: &mut [u8],
     store: &[u8; 16384],

@@ -1,5 +1,6 @@
 // How long a capture takes, which of the picture's pixels fall into which cycles, and which lengths of lent memory are allowed.
 // It knows registers, lengths, RAM bytes and cycles, but neither the state record nor the bus, and refuses nothing.
+// The RAM stays a slice whose least length a clause says: C lends it, of 1 to 16 banks.
 #![tactic(auto)]
 
 ghost use Rattle.std.specs.Prelude.{◌≡◌, Bool, true, false, ℕ, ◌+◌, ◌-◌, ◌*◌, ◌/◌, ◌%◌, ◌<◌, ◌≤◌, min, length};

@@ -1,5 +1,6 @@
 // Events, put into a lent buffer. Each function returns the place after the event's LF.
 // What an event tells is a parameter each, and no struct: the definition of its text, which is the contract, takes the same in this order.
+// Buffer and place stay two parameters, and the room a clause of each: `words` says why.
 ghost use Rattle.std.specs.Prelude.{◌≡◌, ◌++◌, ◌+◌, ◌≤◌, length};
 ghost use Rattle.laws.specs.Pick.{pick};
 ghost use Rattle.lines.specs.Hex.{hex_text};
@@ -43,6 +44,7 @@ fn put_taken(out: &mut [u8], at: usize, image: u32, row: u64, registers: &[u8; 5
 }
 
 // A start.
+// The registers stay a slice: an array would ask more of who calls it.
 pub fn put_start(
     out: &mut [u8],
     at: usize,
