@@ -15,7 +15,7 @@ pub overflow_add-total-in-loop-line : goal.overflow_add-total-in-loop-line
 overflow_add-total-in-loop-line c =
     let l = c.loop-line in
     let s = c.in-Some.ensures.steps in
-    omega (arith, l.invariant, text_longer l.line-iterator.n (omega (arith, s.1)) s.0, text_few c.args.script.now c.args.n, c.requires.1)
+    omega (arith, l.invariant, text_longer l.line-iterator.n (omega (arith, s.1)) s.0, text_few c.args.script.text.now c.args.n, c.args.script.bound)
 
 pub loop-line-preserved : goal.loop-line-preserved
 loop-line-preserved c =

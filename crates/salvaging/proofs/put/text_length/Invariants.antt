@@ -7,4 +7,4 @@ use Rattle.salvaging.proofs.put.text_length.Given as goal
 
 abbrev pub invariant-loop-line : goal.invariant-loop-line
 invariant-loop-line l =
-    l.total + length (text_of (take l.line-iterator.n (accepted_of (lines_of l.line-iterator.iter.0.0.now)))) ≡ length (text_of (take l.n (accepted_at l.script 0)))
+    l.total + length (text_of (take l.line-iterator.n (accepted_of (lines_of l.line-iterator.iter.0.0.now)))) ≡ length (text_of (take l.n (accepted_at l.script.text.now 0)))
