@@ -41,12 +41,7 @@ fn same_lines(one: Accepted<'_>, other: Accepted<'_>, n: usize) -> bool
     requires { (n ≤ length (accepted_of (lines_of one.0.0.now))) × (n ≤ length (accepted_of (lines_of other.0.0.now))) }
     ensures { result ≡ same_lines (take n (accepted_of (lines_of one.entry.0.0.now))) (take n (accepted_of (lines_of other.entry.0.0.now))) }
 {
-    for (a, b) in one.take(n).zip(other) {
-        if a != b {
-            return false;
-        }
-    }
-    true
+    one.take(n).zip(other).all(|(a, b)| a == b)
 }
 
 // Whether the first n accepted lines are some sequence followed by itself, both halves starting with reset.
