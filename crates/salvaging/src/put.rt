@@ -35,11 +35,10 @@ pub(crate) fn text_length(script: Script<'_>, n: usize) -> usize
     requires { n ≤ length (accepted_at script.text.now 0) }
     ensures { result ≡ length (text_of (take n (accepted_at script.entry.text.now 0))) }
 {
-    let mut total = 0;
-    for line in Accepted(Lines(script.text)).take(n) {
-        total += line.len() + 1;
-    }
-    total
+    Accepted(Lines(script.text))
+        .take(n)
+        .map(|line| line.len() + 1)
+        .sum()
 }
 
 // Puts a line with its LF at a place of a buffer.
