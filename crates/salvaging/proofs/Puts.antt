@@ -1,11 +1,13 @@
 -- Lines and marks put into a buffer, one after the other: laws of `text_of` and `marks`. Assumes nothing.
 use mathlib.Core.Path.{◌≡◌, refl, sym, ap, ◌∙◌}
 use mathlib.Core.Bool.{Bool}
-use mathlib.Core.List.{List, [], ◌∷◌, ◌++◌}
+use mathlib.Core.List.{List, [], ◌∷◌, ◌++◌, map}
 use Prim.Native.Nat.{ℕ, zero, suc, ◌+◌, ◌-◌, ◌<◌, ◌≤◌}
 use native.Mathlib.Omega.{arith}
 use lib.ListN.{length, take, drop, set, length-append}
 use lib.Seq.{drop-drop}
+use Rattle.std.specs.List.{sum}
+use Rattle.std.proofs.lemmas.List.Sums.{sum_by-cons}
 use Rattle.lines.specs.Hex.{placed}
 use Rattle.recording.specs.Record.{ended}
 use Rattle.lines.proofs.Placed.{placed_one, placed_next, length_placed}
@@ -41,6 +43,16 @@ pub text_longer : (n : ℕ) {lines rest : List (List ℕ)} {line : List ℕ} →
     → length (text_of (take n lines)) ≡ (length line + 1) + length (text_of (take (n - 1) rest))
 text_longer n {lines} {rest} {line} h e =
     ap length (text_next n h e) ∙ length-append (ended line) (text_of (take (n - 1) rest)) ∙ ap (λ k. k + length (text_of (take (n - 1) rest))) (ended_long line)
+
+-- how long a text is: each line, and its LF
+pub summed : (lines : List (List ℕ)) → sum (map (λ l. length l + 1) lines) ≡ length (text_of lines)
+unfolding text_of
+summed [] = refl
+summed (line ∷ lines) =
+    sum_by-cons (λ x. x) (length line + 1) (map (λ l. length l + 1) lines)
+    ∙ ap (λ k. (length line + 1) + k) (summed lines)
+    ∙ ap (λ k. k + length (text_of lines)) (sym (ended_long line))
+    ∙ sym (length-append (ended line) (text_of lines))
 
 pub text_over : (n : ℕ) (lines : List (List ℕ)) → (0 < n → lines ≡ []) → text_of (take n lines) ≡ []
 unfolding text_of

@@ -10,6 +10,7 @@ use lib.Pointwise.{pointwise}
 use lib.ListN.{length, take, drop, length-take, length-drop, length-append, take-append-drop}
 use lib.Seq.{take-add, take_at, drop_at, take-take, take-length, length-take-le}
 use borrow.Author.Tests.{eq-eqb, eqb-true}
+use Rattle.std.specs.List.{list_all, zip}
 use Rattle.laws.specs.Iter.{iter}
 use Rattle.laws.proofs.Iter.{iter_add, iter_cons, iter_fixed}
 use Rattle.laws.proofs.Bools.{either, not_both, both_left, both_right}
@@ -32,25 +33,13 @@ same_pointwise f [] (y ∷ b) = refl
 same_pointwise f (x ∷ a) [] = refl
 same_pointwise f (x ∷ a) (y ∷ b) = ap (λ t. f x y && t) (same_pointwise f a b)
 
--- the next of n lines
-module _ (n : ℕ) {P Q P' Q' : List (List ℕ)} {x y : List ℕ} (some : 0 < n) (p : P ≡ x ∷ P') (q : Q ≡ y ∷ Q') where
-  same_next : same_lines (take n P) (take n Q) ≡ (same_line x y && same_lines (take (n - 1) P') (take (n - 1) Q'))
-  unfolding same_by
-  same_next =
-      let e : n ≡ suc (n - 1) = omega arith in
-      ap (λ k. same_lines (take k P) (take k Q)) e
-      ∙ ap (λ l. same_lines (take (suc (n - 1)) l) (take (suc (n - 1)) Q)) p
-      ∙ ap (λ l. same_lines (x ∷ take (n - 1) P') (take (suc (n - 1)) l)) q
-
-  pub same_breaks : same_line x y ≡ false → same_lines (take n P) (take n Q) ≡ false
-  same_breaks e = same_next ∙ ap (λ t. t && same_lines (take (n - 1) P') (take (n - 1) Q')) e
-
-  pub same_goes : same_line x y ≡ true → same_lines (take n P) (take n Q) ≡ same_lines (take (n - 1) P') (take (n - 1) Q')
-  same_goes e = same_next ∙ ap (λ t. t && same_lines (take (n - 1) P') (take (n - 1) Q')) e
-
-pub same_done : (n : ℕ) (P Q : List (List ℕ)) → n ≡ 0 → same_lines (take n P) (take n Q) ≡ true
+-- all pairs of the first n lines are the same where those lines are
+pub all_same : (n : ℕ) (P Q : List (List ℕ)) → n ≤ length P → n ≤ length Q → list_all (λ p. pointwise eqb p.0 p.1) (zip (take n P) Q) ≡ same_lines (take n P) (take n Q)
 unfolding same_by
-same_done n P Q e = rw e
+all_same zero P Q h k = refl
+all_same (suc n) [] Q h k = absurd (omega arith)
+all_same (suc n) (x ∷ P) [] h k = absurd (omega arith)
+all_same (suc n) (x ∷ P) (y ∷ Q) h k = (λ i. same_pointwise eqb x y i && all_same n P Q (omega arith) (omega arith) i)
 
 -- ---- the first half and the second
 

@@ -10,7 +10,7 @@ ghost use Rattle.salvaging.specs.Salvage.{salvage_means, salvaged_as};
 
 use controller::Refusal;
 use controller::judge::{no_room, refused_if};
-use place::count_lines;
+use place::{Script, count_lines};
 use put::{put_report, put_text, text_length};
 use twice::kept;
 
@@ -29,6 +29,7 @@ pub fn salvage(script: &[u8], text: &mut [u8], report: &mut [u8]) -> Result<Salv
     ensures { salvaged_as result text.new report.new ≡ salvage_means script.now text.old report.old }
 {
     refused_if(LONGEST < script.len(), Refusal::Script)?;
+    let script = Script { text: script };
     let lines = count_lines(script);
     let n = kept(script);
     let length = text_length(script, n);

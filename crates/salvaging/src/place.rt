@@ -7,6 +7,13 @@ ghost use Rattle.salvaging.specs.Aside.{line_length};
 
 use lines::line::{Frame, frame_of};
 
+// A script of no more than the longest one's bytes.
+#[derive(Clone, Copy)]
+pub(crate) struct Script<'a> {
+    pub(crate) text: &'a [u8],
+    ghost bound: { length text.now ≤ 32768 },
+}
+
 // The lines that are left of a script, each without its LF.
 #[derive(Clone, Copy)]
 pub(crate) struct Lines<'a>(pub(crate) &'a [u8]);
@@ -64,7 +71,8 @@ fn first_lf(script: &[u8]) -> Option<usize>
     script.iter().position(|b| *b == 0x0A)
 }
 
-// How many bytes a text has before its first LF, or altogether where it has none.
+// How many bytes a text has before its first LF, or altogether where it has none. Not `short::line_end`: `line_length` is what `lines_of` is made of; that one
+// says `Ends`.
 fn line_end(script: &[u8]) -> usize
     ensures { (result ≡ line_length script.now) × (result ≤ length script.now) }
 {
@@ -72,17 +80,15 @@ fn line_end(script: &[u8]) -> usize
 }
 
 // How many lines a script has.
-pub(crate) fn count_lines(script: &[u8]) -> usize
-    requires { length script.now ≤ 32768 }
-    ensures { result ≡ length (lines_of script.now) }
+pub(crate) fn count_lines(script: Script<'_>) -> usize
+    ensures { result ≡ length (lines_of script.entry.text.now) }
 {
-    Lines(script).count()
+    Lines(script.text).count()
 }
 
 // How many of them are accepted.
-pub(crate) fn count_accepted(script: &[u8]) -> usize
-    requires { length script.now ≤ 32768 }
-    ensures { result ≡ length (accepted_of (lines_of script.now)) }
+pub(crate) fn count_accepted(script: Script<'_>) -> usize
+    ensures { result ≡ length (accepted_of (lines_of script.entry.text.now)) }
 {
-    Accepted(Lines(script)).count()
+    Accepted(Lines(script.text)).count()
 }

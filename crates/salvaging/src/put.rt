@@ -7,7 +7,7 @@ ghost use Rattle.salvaging.specs.Kept.{text_of, mark_of, left_after, marks};
 ghost use Rattle.salvaging.specs.Marks.{byte_of};
 ghost use Rattle.salvaging.specs.Aside.{accepted_at};
 
-use super::place::{Accepted, Lines, is_accepted};
+use super::place::{Accepted, Lines, Script, is_accepted};
 
 // What a report says of a line.
 #[derive(Clone, Copy, Debug, PartialEq, Eq)]
@@ -31,15 +31,14 @@ impl From<Mark> for u8 {
 }
 
 // How long the text of the first n accepted lines is, each with its LF.
-pub(crate) fn text_length(script: &[u8], n: usize) -> usize
-    requires { (n ≤ length (accepted_at script.now 0)) × (length script.now ≤ 32768) }
-    ensures { result ≡ length (text_of (take n (accepted_at script.now 0))) }
+pub(crate) fn text_length(script: Script<'_>, n: usize) -> usize
+    requires { n ≤ length (accepted_at script.text.now 0) }
+    ensures { result ≡ length (text_of (take n (accepted_at script.entry.text.now 0))) }
 {
-    let mut total = 0;
-    for line in Accepted(Lines(script)).take(n) {
-        total += line.len() + 1;
-    }
-    total
+    Accepted(Lines(script.text))
+        .take(n)
+        .map(|line| line.len() + 1)
+        .sum()
 }
 
 // Puts a line with its LF at a place of a buffer.
@@ -52,14 +51,13 @@ fn put_line(text: &mut [u8], at: usize, line: &[u8])
     text[end] = 0x0A;
 }
 
-// Puts the first n accepted lines, each with its LF.
-pub(crate) fn put_text(script: &[u8], n: usize, text: &mut [u8])
-    requires { (n ≤ length (accepted_at script.now 0)) × (length script.now ≤ 32768)
-        × (length (text_of (take n (accepted_at script.now 0))) ≤ length text.old) }
-    ensures { text.new ≡ placed text.old 0 (text_of (take n (accepted_at script.now 0))) }
+// Puts the first n accepted lines, each with its LF. The place goes on by each line's length, so no iterator knows it.
+pub(crate) fn put_text(script: Script<'_>, n: usize, text: &mut [u8])
+    requires { (n ≤ length (accepted_at script.text.now 0)) × (length (text_of (take n (accepted_at script.text.now 0))) ≤ length text.old) }
+    ensures { text.new ≡ placed text.old 0 (text_of (take n (accepted_at script.entry.text.now 0))) }
 {
     let mut out = 0;
-    for line in Accepted(Lines(script)).take(n) {
+    for line in Accepted(Lines(script.text)).take(n) {
         put_line(text, out, line);
         out += line.len() + 1;
     }
@@ -91,13 +89,14 @@ fn left_after(good: bool, left: usize) -> usize
     left - 1
 }
 
-// Puts one byte for each line, in order, where the first n accepted lines are kept.
-pub(crate) fn put_report(script: &[u8], n: usize, report: &mut [u8])
-    requires { (length script.now ≤ 32768) × (length (lines_of script.now) ≤ length report.old) }
-    ensures { report.new ≡ placed report.old 0 (marks n (lines_of script.now)) }
+// Puts one byte for each line, in order, where the first n accepted lines are kept. By place: after a zip with `iter_mut` a proof knows nothing of what was
+// written.
+pub(crate) fn put_report(script: Script<'_>, n: usize, report: &mut [u8])
+    requires { length (lines_of script.text.now) ≤ length report.old }
+    ensures { report.new ≡ placed report.old 0 (marks n (lines_of script.entry.text.now)) }
 {
     let mut left = n;
-    for (i, line) in Lines(script).enumerate() {
+    for (i, line) in Lines(script.text).enumerate() {
         let good = is_accepted(line);
         report[i] = u8::from(line_mark(good, left));
         left = left_after(good, left);

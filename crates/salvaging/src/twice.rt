@@ -5,7 +5,7 @@ ghost use Rattle.script.specs.Text.{lines_of};
 ghost use Rattle.salvaging.specs.Kept.{accepted_of, is_reset, starts_reset, same_lines, doubled, salvaged};
 ghost use Rattle.salvaging.specs.Aside.{accepted_at};
 
-use super::place::{Accepted, Lines, count_accepted};
+use super::place::{Accepted, Lines, Script, count_accepted};
 use lines::line::{Frame, frame_of};
 
 // Whether a line is reset.
@@ -41,18 +41,13 @@ fn same_lines(one: Accepted<'_>, other: Accepted<'_>, n: usize) -> bool
     requires { (n ≤ length (accepted_of (lines_of one.0.0.now))) × (n ≤ length (accepted_of (lines_of other.0.0.now))) }
     ensures { result ≡ same_lines (take n (accepted_of (lines_of one.entry.0.0.now))) (take n (accepted_of (lines_of other.entry.0.0.now))) }
 {
-    for (a, b) in one.take(n).zip(other) {
-        if a != b {
-            return false;
-        }
-    }
-    true
+    one.take(n).zip(other).all(|(a, b)| a == b)
 }
 
 // Whether the first n accepted lines are some sequence followed by itself, both halves starting with reset.
-fn is_doubled(script: &[u8], n: usize) -> bool
-    requires { (n ≤ length (accepted_at script.now 0)) × (length script.now ≤ 32768) }
-    ensures { result ≡ doubled (take n (accepted_at script.now 0)) }
+fn is_doubled(script: Script<'_>, n: usize) -> bool
+    requires { n ≤ length (accepted_at script.text.now 0) }
+    ensures { result ≡ doubled (take n (accepted_at script.entry.text.now 0)) }
 {
     let half = n / 2;
     if half == 0 {
@@ -61,21 +56,20 @@ fn is_doubled(script: &[u8], n: usize) -> bool
     if n % 2 != 0 {
         return false;
     }
-    if !starts_reset(Accepted(Lines(script))) {
+    if !starts_reset(Accepted(Lines(script.text))) {
         return false;
     }
-    let later = after(script, half);
+    let later = after(script.text, half);
     if !starts_reset(later) {
         return false;
     }
-    same_lines(Accepted(Lines(script)), later, half)
+    same_lines(Accepted(Lines(script.text)), later, half)
 }
 
 // How many of the accepted lines are kept: one half of them, again until no repetition is left.
-pub(crate) fn kept(script: &[u8]) -> usize
-    requires { length script.now ≤ 32768 }
-    ensures { (result ≤ length (accepted_at script.now 0))
-        × (take result (accepted_at script.now 0) ≡ salvaged (lines_of script.now)) }
+pub(crate) fn kept(script: Script<'_>) -> usize
+    ensures { (result ≤ length (accepted_at script.entry.text.now 0))
+        × (take result (accepted_at script.entry.text.now 0) ≡ salvaged (lines_of script.entry.text.now)) }
 {
     let mut n = count_accepted(script);
     while is_doubled(script, n) {

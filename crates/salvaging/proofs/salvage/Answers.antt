@@ -53,6 +53,9 @@ module _ (script text report : List ℕ) (small : length script ≤ 32768) {long
     both_done : {y : ⊤} → w ≡ Ok y → salvage_done script text report ≡ salvage_means script text report
     both_done g = by_fits (salvage_short script text report small) w both_judged g
 
+pub invariant_of-script : goal.invariant_of-script
+invariant_of-script c = record { bound = not_long_judged c.args.script.now _ c.refused_if.ensures c.in_ok-refused_if.was }
+
 pub returns-in_err-no_room : goal.returns-in_err-no_room
 returns-in_err-no_room c =
     let a = c.args in
@@ -76,7 +79,7 @@ put_text-requires c =
     let small = not_long_judged s _ c.refused_if.ensures c.in_ok-refused_if.was in
     let e = is-cleaned s c.kept-n.result c.kept-n.ensures.1 in
     let f = both_room s a.text.now a.report.now small (c.text_length-length.ensures ∙ ap length e) c.count_lines-lines.ensures _ c.no_room.ensures c.in_ok-no_room.was _ c.no_room-2.ensures c.in_ok-no_room-2.was in
-    (c.kept-n.ensures.0, small, omega (arith, ap length e, f.0))
+    (c.kept-n.ensures.0, omega (arith, ap length e, f.0))
 
 pub put_report-requires : goal.put_report-requires
 put_report-requires c =
@@ -85,7 +88,7 @@ put_report-requires c =
     let small = not_long_judged s _ c.refused_if.ensures c.in_ok-refused_if.was in
     let e = is-cleaned s c.kept-n.result c.kept-n.ensures.1 in
     let f = both_room s a.text.now a.report.now small (c.text_length-length.ensures ∙ ap length e) c.count_lines-lines.ensures _ c.no_room.ensures c.in_ok-no_room.was _ c.no_room-2.ensures c.in_ok-no_room-2.was in
-    (small, f.1)
+    f.1
 
 pub returns : goal.returns
 unfolding salvage_done

@@ -4,4 +4,4 @@ use Rattle.salvaging.proofs.Cleaned.{lines_few}
 use Rattle.salvaging.proofs.place.count_lines.Goals as goal
 
 pub count-requires-clause-fits : goal.count-requires-clause-fits
-count-requires-clause-fits c = inl (omega (arith, lines_few c.args.script.now))
+count-requires-clause-fits c = inl (omega (arith, c.args.script.bound, lines_few c.args.script.text.now))

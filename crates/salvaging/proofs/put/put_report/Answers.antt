@@ -9,7 +9,7 @@ use Rattle.salvaging.proofs.put.put_report.Goals as goal
 pub loop-i-init : goal.loop-i-init
 loop-i-init c =
     let e = c.enumerate-i-items.ensures in
-    rw (c.into_iter-i-iterator.ensures.into_iter_gives, e.source, e.count) (omega (arith, c.requires.1), refl)
+    rw (c.into_iter-i-iterator.ensures.into_iter_gives, e.source, e.count) (omega (arith, c.requires), refl)
 
 -- the line that is reported, and those after it
 pub bounds-report-i : goal.bounds-report-i

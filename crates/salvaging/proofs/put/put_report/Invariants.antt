@@ -8,4 +8,4 @@ use Rattle.salvaging.proofs.put.put_report.Given as goal
 abbrev pub invariant-loop-i : goal.invariant-loop-i
 invariant-loop-i l =
     (l.i-iterator.count + length (lines_of l.i-iterator.iter.0.now) ≤ length l.initial.report)
-    × (placed l.report l.i-iterator.count (marks l.left (lines_of l.i-iterator.iter.0.now)) ≡ placed l.initial.report 0 (marks l.n (lines_of l.script)))
+    × (placed l.report l.i-iterator.count (marks l.left (lines_of l.i-iterator.iter.0.now)) ≡ placed l.initial.report 0 (marks l.n (lines_of l.script.text.now)))

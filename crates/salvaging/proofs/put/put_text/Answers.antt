@@ -11,7 +11,7 @@ use Rattle.salvaging.proofs.put.put_text.Goals as goal
 pub loop-line-init : goal.loop-line-init
 loop-line-init c =
     let e = c.take-line-items.ensures in
-    rw (c.into_iter-line-iterator.ensures.into_iter_gives, e.source, e.count) (omega (arith, c.requires.2), refl)
+    rw (c.into_iter-line-iterator.ensures.into_iter_gives, e.source, e.count) (omega (arith, c.requires.1), refl)
 
 pub put_line-requires : goal.put_line-requires
 put_line-requires c =

@@ -9,4 +9,4 @@ use Rattle.salvaging.proofs.put.put_text.Given as goal
 abbrev pub invariant-loop-line : goal.invariant-loop-line
 invariant-loop-line l =
     (l.out + length (text_of (take l.line-iterator.n (accepted_of (lines_of l.line-iterator.iter.0.0.now)))) ≤ length l.initial.text)
-    × (placed l.text l.out (text_of (take l.line-iterator.n (accepted_of (lines_of l.line-iterator.iter.0.0.now)))) ≡ placed l.initial.text 0 (text_of (take l.n (accepted_at l.script 0))))
+    × (placed l.text l.out (text_of (take l.line-iterator.n (accepted_of (lines_of l.line-iterator.iter.0.0.now)))) ≡ placed l.initial.text 0 (text_of (take l.n (accepted_at l.script.text.now 0))))

@@ -1,32 +1,35 @@
--- `salvaging::put::text_length` meets its contract: the invariant is that the length so far and the length of the lines left are the whole. Assumes nothing.
-use Rattle.std.proofs.Common.{◌≡◌, ◌-◌, ap, length, arith}
+-- `salvaging::put::text_length` meets its contract: the sum is over the lines that are put. Assumes nothing.
+use Rattle.std.proofs.Common.{◌+◌, ◌<◌, ◌^◌, Bor, ℕ, List, map, sum, ap, ◌∙◌, length, take, arith, rules}
+use Rattle.std.proofs.lemmas.Iterator.{YieldsList-from_take, YieldsList-from_map}
+use Rattle.std.proofs.lemmas.Iterator.Consumers.{YieldsList-from_first, sum_from_yields_List, fits_from_yields_list}
 use Rattle.script.specs.Text.{lines_of}
+use Rattle.salvaging.specs.declared.place.Accepted.{Accepted}
 use Rattle.salvaging.specs.Kept.{accepted_of}
-use Rattle.salvaging.proofs.Puts.{text_longer, text_over}
+use Rattle.salvaging.proofs.Puts.{summed}
 use Rattle.salvaging.proofs.Cleaned.{text_few}
 use Rattle.salvaging.proofs.put.text_length.Goals as goal
 
-pub loop-line-init : goal.loop-line-init
-loop-line-init c =
-    let e = c.take-line-items.ensures in
-    rw (c.into_iter-line-iterator.ensures.into_iter_gives, e.source, e.count) (omega arith)
+-- the accepted lines that are left
+abbrev left : Accepted → List (List ℕ)
+left s = accepted_of (lines_of s.0.0.now)
 
-pub overflow_add-total-in-loop-line : goal.overflow_add-total-in-loop-line
-overflow_add-total-in-loop-line c =
-    let l = c.loop-line in
-    let s = c.in-Some.ensures.steps in
-    omega (arith, l.invariant, text_longer l.line-iterator.n (omega (arith, s.1)) s.0, text_few c.args.script.now c.args.n, c.requires.1)
-
-pub loop-line-preserved : goal.loop-line-preserved
-loop-line-preserved c =
-    let l = c.loop-line in
-    let s = c.in-Some.ensures.steps in
-    let p : l.line-iterator.n - 1 ≡ c.next.new.self.n = omega (arith, s.1) in
-    let t = rw p at (text_longer l.line-iterator.n (omega (arith, s.1)) s.0) in
-    omega (arith, l.invariant, t)
+pub sum-requires-clause-fits : goal.sum-requires-clause-fits
+sum-requires-clause-fits c =
+    let a = c.args in
+    let script = a.script.text.now in
+    let lines = accepted_of (lines_of script) in
+    let m = c.map.ensures in
+    let t = c.take.ensures in
+    let few : sum (map (λ l. length l + 1) (take a.n lines)) < 2 ^ 64 = omega (arith, summed (take a.n lines), text_few script a.n, a.script.bound) in
+    let road = YieldsList-from_take {s = c.map.result.iter} a.n (YieldsList-from_first {A = Bor (List ℕ)} (λ x. x.now) left {s = c.map.result.iter.iter} lines (ap (λ s. left s.iter) m.source ∙ ap left t.source)) (ap (λ s. s.n) m.source ∙ t.count) in
+    fits_from_yields_list _ _ (YieldsList-from_map _ (λ l. length l + 1) road m.closure (λ x r q k. search rules)) few
 
 pub returns : goal.returns
 returns c =
-    let l = c.loop-line in
-    let s = c.in-None.ensures.steps in
-    omega (arith, l.invariant, ap length (text_over l.line-iterator.n (accepted_of (lines_of l.line-iterator.iter.0.0.now)) (λ p. (s p).0)))
+    let a = c.args in
+    let lines = accepted_of (lines_of a.script.text.now) in
+    let m = c.map.ensures in
+    let t = c.take.ensures in
+    let road = YieldsList-from_take {s = c.map.result.iter} a.n (YieldsList-from_first {A = Bor (List ℕ)} (λ x. x.now) left {s = c.map.result.iter.iter} lines (ap (λ s. left s.iter) m.source ∙ ap left t.source)) (ap (λ s. s.n) m.source ∙ t.count) in
+    sum_from_yields_List _ _ c.sum.ensures.ran (YieldsList-from_map _ (λ l. length l + 1) road m.closure (λ x r q k. search rules))
+    ∙ summed (take a.n lines)

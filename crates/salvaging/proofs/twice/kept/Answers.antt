@@ -9,18 +9,18 @@ use Rattle.salvaging.proofs.Turns.{all_counted, some_doubled, first_half, again,
 use Rattle.salvaging.proofs.twice.kept.Goals as goal
 
 pub loop-n-init : goal.loop-n-init
-loop-n-init c = (omega (arith, c.count_accepted-n.ensures), all_counted (lines_of c.args.script.now) _ c.count_accepted-n.ensures)
+loop-n-init c = (omega (arith, c.count_accepted-n.ensures), all_counted (lines_of c.args.script.text.now) _ c.count_accepted-n.ensures)
 
 pub is_doubled-requires : goal.is_doubled-requires
-is_doubled-requires c = (c.loop-n.invariant.0, c.requires)
+is_doubled-requires c = c.loop-n.invariant.0
 
 pub loop-n-smaller : goal.loop-n-smaller
-loop-n-smaller c = omega (arith, some_doubled c.loop-n.n (accepted_at c.args.script.now 0) (sym c.is_doubled.ensures ∙ c.loop-n-test.true))
+loop-n-smaller c = omega (arith, some_doubled c.loop-n.n (accepted_at c.args.script.text.now 0) (sym c.is_doubled.ensures ∙ c.loop-n-test.true))
 
 pub loop-n-preserved : goal.loop-n-preserved
 loop-n-preserved c =
     let l = c.loop-n in
-    let lines = accepted_at c.args.script.now 0 in
+    let lines = accepted_at c.args.script.text.now 0 in
     (omega (arith, l.invariant.0), ap unrepeated (sym (first_half l.n lines l.invariant.0)) ∙ sym (again (take l.n lines) (sym c.is_doubled.ensures ∙ c.loop-n-test.true)) ∙ l.invariant.1)
 
 pub returns : goal.returns

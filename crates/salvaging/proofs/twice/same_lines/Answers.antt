@@ -1,42 +1,24 @@
--- `salvaging::twice::same_lines` meets its contract: the invariant is that the lines passed are the same. Assumes nothing.
-use Rattle.std.proofs.Common.{◌≡◌, ◌-◌, false, not, ⊎_elim, eqb, sym, refl, ap, ◌∙◌, length, arith}
+-- `salvaging::twice::same_lines` meets its contract: all pairs of the two are the same. Assumes nothing.
+use Rattle.std.proofs.Common.{ℕ, List, eqb, ap, ◌∙◌, rules, tests}
+use Rattle.std.proofs.lemmas.Iterator.{YieldsList-from_take, YieldsList-from_zip}
+use Rattle.std.proofs.lemmas.Iterator.Consumers.{YieldsList-from_first}
+use Rattle.std.proofs.lemmas.Iterator.Search.{all_from_yields_List}
 use lib.Pointwise.{pointwise}
-use Rattle.laws.proofs.Order.{split}
-use Rattle.laws.proofs.Bools.{either, not_fails, not_both}
-use Rattle.salvaging.proofs.Turns.{same_pointwise, same_breaks, same_goes, same_done}
+use Rattle.script.specs.Text.{lines_of}
+use Rattle.salvaging.specs.declared.place.Accepted.{Accepted}
+use Rattle.salvaging.specs.Kept.{accepted_of}
+use Rattle.salvaging.proofs.Turns.{all_same}
 use Rattle.salvaging.proofs.twice.same_lines.Goals as goal
 
-pub loop-a-init : goal.loop-a-init
-loop-a-init c =
-    let z = c.zip-a-items.ensures in
-    rw (c.into_iter-a-iterator.ensures.into_iter_gives, z.first, z.second, c.take.ensures.source, c.take.ensures.count) (c.requires.0, c.requires.1, refl)
-
-pub loop-a-preserved : goal.loop-a-preserved
-loop-a-preserved c =
-    let l = c.loop-a in
-    let s = c.in-Some.ensures.steps in
-    let p : l.a-iterator.a.n - 1 ≡ c.next.new.self.a.n = omega (arith, s.0.1) in
-    let e = sym (same_pointwise eqb c.in-Some.a.now c.in-Some.b.now) ∙ not_fails _ (sym c.ne.ensures ∙ c.if-ne.false) in
-    let on = rw p at (same_goes l.a-iterator.a.n (omega (arith, s.0.1)) s.0.0 s.1 e) in (
-      omega (arith, l.invariant.0, ap length s.0.0, s.0.1),
-      omega (arith, l.invariant.1, ap length s.1, s.0.1),
-      sym on ∙ l.invariant.2,
-    )
-
-pub returns-then-ne : goal.returns-then-ne
-returns-then-ne c =
-    let l = c.loop-a in
-    let s = c.in-Some.ensures.steps in
-    let n = sym c.ne.ensures ∙ c.if-ne.true in
-    let e : pointwise eqb c.in-Some.a.now c.in-Some.b.now ≡ false = either (pointwise eqb c.in-Some.a.now c.in-Some.b.now) (λ t. not_both n (ap not t)) (λ f. f) in
-    sym (sym l.invariant.2 ∙ same_breaks l.a-iterator.a.n (omega (arith, s.0.1)) s.0.0 s.1 (sym (same_pointwise eqb c.in-Some.a.now c.in-Some.b.now) ∙ e))
+-- the accepted lines that are left
+abbrev left : Accepted → List (List ℕ)
+left s = accepted_of (lines_of s.0.0.now)
 
 pub returns : goal.returns
 returns c =
-    let l = c.loop-a in
-    let none : l.a-iterator.a.n ≡ 0 =
-    ⊎_elim
-    (λ w. split 0 l.a-iterator.a.n (λ p. absurd (omega (arith, l.invariant.0, ap length (w.1 p).0))) (λ p. omega arith))
-    (λ w. omega (arith, l.invariant.1, ap length w.1.0))
-    c.in-None.ensures.steps in
-    sym (same_done l.a-iterator.a.n _ _ none) ∙ l.invariant.2
+    let a = c.args in
+    let z = c.zip.ensures in
+    let take = YieldsList-from_take a.n (YieldsList-from_first (λ x. x.now) left {s = c.zip.result.a.iter} (left a.one) (ap (λ s. left s.iter) z.first ∙ ap left c.take.ensures.source)) (ap (λ s. s.n) z.first ∙ c.take.ensures.count) in
+    let other = YieldsList-from_first (λ x. x.now) left {s = c.zip.result.b} (left a.other) (ap left z.second) in
+    all_from_yields_List (λ p. pointwise eqb p.0 p.1) c.all.new.self _ c.all.result c.all.ensures.ran (YieldsList-from_zip take other) (λ x b q k. search (rules, tests))
+    ∙ all_same a.n (left a.one) (left a.other) c.requires.0 c.requires.1
