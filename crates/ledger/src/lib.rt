@@ -12,6 +12,7 @@ use auditing::summary::summary_put;
 use changes::change_put;
 use controller::Refusal;
 use controller::judge::refused_if;
+use events::book::{LINES, WRITTEN};
 use layout::is_record;
 use pieces::{end_audited, piece_audited};
 use timing::ram_allowed;
@@ -146,8 +147,8 @@ pub extern "C" fn gulxinett_audit_changed(
     if let Err(why) = judge_changed(book, first, ram, out) {
         return refused(why);
     }
-    let change = change_put(first, ram, place_in(from, ram.len()), book[2], out);
-    book[0] = change.written as u64;
+    let change = change_put(first, ram, place_in(from, ram.len()), book[LINES], out);
+    book[WRITTEN] = change.written as u64;
     pack(0, (change.next % 4294967296) as u32)
 }
 
@@ -160,6 +161,6 @@ pub extern "C" fn gulxinett_audit_summary(book: &mut [u64], state: &[u8], out: &
         return refused(why);
     }
     let written = summary_put(book, state[4] == 1, out);
-    book[0] = written as u64;
+    book[WRITTEN] = written as u64;
     pack(0, (written % 4294967296) as u32)
 }

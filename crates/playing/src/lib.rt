@@ -14,10 +14,7 @@ fn write(sink: &mut impl Write, out: &[u8], n: usize) -> io::Result<()> {
 
 // How many bytes the last call has put into the buffer: the book's first number.
 fn written(book: &[u64]) -> usize {
-    match book.first() {
-        Some(n) => *n as usize,
-        None => 0,
-    }
+    book.first().map_or(0, |n| *n as usize)
 }
 
 // Writes what the last call has put into the buffer.
@@ -84,6 +81,7 @@ impl<'a> Audit<'a> {
         requires { length piece.now ≤ 65536 }
     {
         let mut rest = piece;
+        // no iterator: how far a turn goes is what `play_some` answers
         while !rest.is_empty() {
             let used = self.play_some(sink, rest)?;
             rest = &rest[used..];
