@@ -5,17 +5,18 @@ use mathlib.Core.List.{List, [], ◌∷◌}
 use Prim.Native.Nat.{ℕ, zero, suc, ◌+◌, ◌*◌, ◌/◌, ◌%◌, ◌<◌, ◌≤◌}
 use native.Mathlib.Omega.{arith}
 use lib.Bits.{bit_and}
-use lib.Dec.{T, eqb, eqb→eq}
+use lib.Dec.{T, eqb, eqb→eq, lit<}
 use lib.ListN.{get_or}
 use mir.Facts.{and_yes}
 use Rattle.laws.specs.Lists.{listed}
 use Rattle.laws.specs.Pick.{pick}
 use Rattle.laws.proofs.Packed.{listed_at}
+use Rattle.laws.proofs.Pick.{pick_ind}
 use Rattle.laws.proofs.Table.{at}
-use Rattle.strips.specs.Aside.{column_of, bytes_of}
-use Rattle.strips.proofs.Columns.{column, bytes_same}
+use Rattle.strips.specs.Aside.{column_of}
+use Rattle.strips.proofs.Columns.{column, all}
 use Rattle.placing.specs.Placing.{is_grey, only_greys, shade_of}
-use Rattle.placing.specs.Aside.{lows_at, highs_at, unset}
+use Rattle.placing.specs.Aside.{lows_at, highs_at, unset, unset_bits}
 use Rattle.placing.proofs.Each.{each_at}
 
 -- ---- one grey, by one test of all bytes
@@ -47,6 +48,10 @@ grey_bits v h g =
 
 -- ---- a row that is turned
 
+-- what it has not is a bit
+pub unset_two : (bit : ℕ) (line : List ℕ) (p : ℕ) → unset bit (get_or line p 0) < 2
+unset_two bit line p = pick_ind (λ n. n < 2) (eqb (bit_and (get_or line p 0) bit) 0) (λ _. lit< tt) (λ _. lit< tt)
+
 -- all eight are the bytes of a row of greys
 module _ (pixels : List ℕ) (bytes : (k : ℕ) → get_or pixels k 0 < 256) (greys : only_greys pixels ≡ true) (at : ℕ) (inside : at + 128 ≤ 14336)
     {row line : List ℕ} (copied : row ≡ listed (λ x. get_or pixels (at + x) 0) 128) (made : line ≡ listed (λ p. get_or row (column_of p) 0) 128) where
@@ -61,12 +66,12 @@ module _ (pixels : List ℕ) (bytes : (k : ℕ) → get_or pixels k 0 < 256) (gr
   bits t k h l =
       rw (grey t k h l) (grey_bits _ (bytes (at + 8 * t + k)) (each_at (λ k. is_grey (get_or pixels k 0)) 14336 greys (at + 8 * t + k) (omega arith)))
 
-  pub low_all : {bytes : List ℕ} → bytes ≡ listed (bytes_of (λ p. unset 1 (get_or line p 0))) 16 → bytes ≡ listed (λ t. lows_at pixels (at + 8 * t)) 16
+  pub low_all : {b : ℕ} {bytes : List ℕ} → b ≡ 8 → bytes ≡ listed (unset_bits 1 line b) 16 → bytes ≡ listed (λ t. lows_at pixels (at + 8 * t)) 16
   unfolding lows_at
   low_all =
-      bytes_same (λ p. unset 1 (get_or line p 0)) (λ t k. shade_of (get_or pixels (at + 8 * t + k) 0) % 2) (λ t k h l. (bits t k h l).0)
+      all (λ p. unset 1 (get_or line p 0)) (λ t k. shade_of (get_or pixels (at + 8 * t + k) 0) % 2) (λ t k h l. (bits t k h l).0)
 
-  pub high_all : {bytes : List ℕ} → bytes ≡ listed (bytes_of (λ p. unset 2 (get_or line p 0))) 16 → bytes ≡ listed (λ t. highs_at pixels (at + 8 * t)) 16
+  pub high_all : {b : ℕ} {bytes : List ℕ} → b ≡ 8 → bytes ≡ listed (unset_bits 2 line b) 16 → bytes ≡ listed (λ t. highs_at pixels (at + 8 * t)) 16
   unfolding highs_at
   high_all =
-      bytes_same (λ p. unset 2 (get_or line p 0)) (λ t k. shade_of (get_or pixels (at + 8 * t + k) 0) / 2) (λ t k h l. (bits t k h l).1)
+      all (λ p. unset 2 (get_or line p 0)) (λ t k. shade_of (get_or pixels (at + 8 * t + k) 0) / 2) (λ t k h l. (bits t k h l).1)

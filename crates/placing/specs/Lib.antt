@@ -1,4 +1,3 @@
 -- A plate's file back into the picture area.
 pub mod Placing
 pub mod Aside
-pub mod Turned

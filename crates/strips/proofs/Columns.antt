@@ -47,6 +47,10 @@ eight P a b c d e f g h (suc (suc (suc (suc (suc (suc zero)))))) l = g
 eight P a b c d e f g h (suc (suc (suc (suc (suc (suc (suc zero))))))) l = h
 eight P a b c d e f g h (suc (suc (suc (suc (suc (suc (suc (suc n)))))))) l = absurd (omega arith)
 
+-- the next weight is half of it
+pub next_weight : (b : ℕ) → b < 8 → place_of (b + 1) / 2 ≡ place_of (b + 1 + 1)
+next_weight = eight (λ b. place_of (b + 1) / 2 ≡ place_of (b + 1 + 1)) refl refl refl refl refl refl refl refl
+
 -- the weight of a column
 pub weight_of : (b : ℕ) → b < 8 → 128 / 2 ^ b ≡ place_of (b + 1)
 weight_of = eight (λ b. 128 / 2 ^ b ≡ place_of (b + 1)) refl refl refl refl refl refl refl refl
@@ -93,7 +97,7 @@ module _ (f : ℕ → ℕ) (two : (p : ℕ) → f p < 2) {b w : ℕ} (h : b < 8)
       moved_more _ _ _ r inside (ap₂ (λ (x y : ℕ). x + y) (r.left t (omega arith) inside) (rw weight at e) ∙ bits_next (λ k. f (16 * k + t)) (λ k. two (16 * k + t)) b h)
 
 -- all eight, as they are by the columns of each tile
-all : (f : ℕ → ℕ) (g : ℕ → ℕ → ℕ) → ((t k : ℕ) → t < 16 → k < 8 → f (16 * k + t) ≡ g t k) → {b : ℕ} {bytes : List ℕ} → b ≡ 8
+pub all : (f : ℕ → ℕ) (g : ℕ → ℕ → ℕ) → ((t k : ℕ) → t < 16 → k < 8 → f (16 * k + t) ≡ g t k) → {b : ℕ} {bytes : List ℕ} → b ≡ 8
     → bytes ≡ listed (bits_of f b) 16 → bytes ≡ listed (λ t. packed (g t) 8) 16
 all f g same e m = rw e at m ∙ listed_ext _ _ 16 (λ t h. let p = packed_ext (λ k. f (16 * k + t)) (g t) 8 (λ k l. same t k h l) in omega arith)
 
