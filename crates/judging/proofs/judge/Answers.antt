@@ -22,11 +22,6 @@ returns-in_err-picture c =
 pub slice_bounds-judge_rows-end : goal.slice_bounds-judge_rows-end
 slice_bounds-judge_rows-end c = (judge_fits _ _ (fits_none _ _ c.judge_lent.ensures c.in_ok-judge_lent.was)).1
 
-pub judge_rows-requires : goal.judge_rows-requires
-judge_rows-requires c =
-    let f = judge_fits c.args.frame.now c.args.rows.now (fits_none _ _ c.judge_lent.ensures c.in_ok-judge_lent.was) in
-    simp (length-take, length-drop) (omega (arith, f.1))
-
 pub returns : goal.returns
 returns c =
     let j = c.judge_rows.ensures in

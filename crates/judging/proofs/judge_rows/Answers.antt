@@ -8,23 +8,11 @@ use Rattle.judging.proofs.judge_rows.Goals as goal
 pub loop-y-init : goal.loop-y-init
 loop-y-init c = (omega arith, omega arith, equal_none _ _, filled_none _ _ (omega arith))
 
-pub bounds-rows-y : goal.bounds-rows-y
-bounds-rows-y c = omega (arith, c.loop-y.invariant.3.whole)
-
-pub overflow_cast-equal : goal.overflow_cast-equal
-overflow_cast-equal c = omega (arith, c.judge_row-row.ensures.1)
-
-pub overflow_add-equal : goal.overflow_add-equal
-overflow_add-equal c = omega (arith, c.judge_row-row.ensures.1)
-
 pub loop-y-preserved : goal.loop-y-preserved
 loop-y-preserved c =
     let l = c.loop-y in
     let r = c.judge_row-row.ensures in
     (omega arith, omega (arith, r.1), equal_more _ _ l.y _ _ l.invariant.2 r.0, filled_more _ _ l.invariant.3 (omega arith) r.0)
-
-pub shape_of-rows : goal.shape_of-rows
-shape_of-rows c = omega (arith, c.loop-y.invariant.3.whole)
 
 pub returns : goal.returns
 returns c =

@@ -25,9 +25,6 @@ loop-i-preserved c =
           ∙ row_stored a.out.now a.at a.bytes.now l.i (omega arith) (omega (arith, small)) (omega arith),
     )
 
-pub shape_of-out : goal.shape_of-out
-shape_of-out c = c.loop-i.invariant.0
-
 pub returns : goal.returns
 returns c =
     let a = c.args in

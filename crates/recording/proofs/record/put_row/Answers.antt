@@ -1,15 +1,10 @@
 -- `recording::record::put_row` meets its contract: kind, row, bytes and LF are put one after another. Assumes nothing.
 use mathlib.Core.Path.{ap, ◌∙◌}
-use lib.ListN.{set, length-set}
+use lib.ListN.{set}
 use Rattle.lines.specs.Hex.{hex_text, placed}
 use Rattle.recording.specs.Record.{row_hex}
 use Rattle.recording.proofs.Written.{row_put}
 use Rattle.recording.proofs.record.put_row.Goals as goal
-
-pub shape_of-out : goal.shape_of-out
-shape_of-out c =
-    let two = c in
-    simp length-set (c.put_bytes.auto.out ∙ two.put_digits-2.auto.out ∙ two.put_digits.auto.out)
 
 pub returns : goal.returns
 returns c =

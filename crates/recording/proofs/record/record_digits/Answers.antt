@@ -3,12 +3,11 @@ use mathlib.Core.Path.{sym, ap, ◌∙◌}
 use mathlib.Core.Bool.{false}
 use Prim.Native.Nat.{◌+◌}
 use native.Mathlib.Nat.{zero-add}
-use native.Mathlib.Omega.{arith}
 use Rattle.std.proofs.lemmas.Result.{err_from_is_err_and}
-use Rattle.controller.proofs.Refusals.{by_why, by_fits, fits_none}
+use Rattle.controller.proofs.Refusals.{by_why, by_fits}
 use Rattle.lines.specs.Hex.{placed}
 use Rattle.recording.specs.Record.{recording}
-use Rattle.recording.proofs.Written.{line_refuses, line_fits, numbers, ended_printed, length_digits, digits_judged}
+use Rattle.recording.proofs.Written.{line_refuses, numbers, ended_printed, length_digits, digits_judged}
 use Rattle.recording.proofs.record.record_digits.Goals as goal
 
 pub returns-in_err-no_room : goal.returns-in_err-no_room
@@ -16,12 +15,6 @@ returns-in_err-no_room c =
     let a = c.args in
     let p = err_from_is_err_and c.from_residual.result c.from_residual.ensures.1 in
     rw (p.1, p.2) (by_why (line_refuses false (numbers a.kind a.digits a.value) a.out.now) _ (digits_judged a.kind a.digits a.value a.out.now c.no_room.ensures) _ c.in_err-no_room.was)
-
-pub put_line-requires : goal.put_line-requires
-put_line-requires c =
-    let a = c.args in
-    let f = line_fits false (numbers a.kind a.digits a.value) a.out.now (fits_none _ _ (digits_judged a.kind a.digits a.value a.out.now c.no_room.ensures) c.in_ok-no_room.was) in
-    omega (arith, f.room, length_digits a.kind a.digits a.value)
 
 pub returns : goal.returns
 returns c =
