@@ -78,7 +78,7 @@ def defined():
     """The choices as the crate defines them: the exposure of bright tables, and of each choice a line that names it, and its level and
     whether it is plain below."""
     text = Path(ROOT, "crates/desk/specs/Stored.antt").read_text(encoding="utf-8")
-    steps = [int(named, 16) for named in re.findall(r"exposure = Named 0x([0-9A-F]+) }", text)]
+    steps = [int(named, 16) for named in re.findall(r"exposure = Some 0x([0-9A-F]+) }", text)]
     ensure(len(steps) == 1, "bright tables name %d exposures" % len(steps))
     found = re.findall(r"^-- (.*, bright table):.*\n.*\n\w+ = bright_table (\d+) (true|false)$", text, re.MULTILINE)
     return {name: {"light": 0, "level": int(level), "dithering": plain == "false", "exposure": steps[0]} for name, level, plain in found}
