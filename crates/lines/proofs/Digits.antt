@@ -2,13 +2,14 @@
 use Rattle.std.proofs.Common.{◌≡◌, ℕ, zero, suc, ◌+◌, ◌-◌, ◌*◌, ◌^◌, ◌<◌, ◌≤◌, Bool, true, false, ◌&&◌, leb, Some, None, List, [], ◌∷◌, ◌++◌, length, get_or, take, drop, take_at, sym, refl, ap, ap₂, ◌∙◌, add-zero, add_assoc, add-suc, pow-suc, zero-add, add-one, arith, lit<, le-ltb, lt-ltb, le-leb, leb-true}
 use Rattle.std.proofs.lemmas.List.{get_or-take, get_or-drop, length_push}
 use lib.Seq.{get_or_at}
-use mathlib.Core.Bool.{and-true, and-false, and_assoc, false≢true}
+use mathlib.Core.Bool.{and-true, true-and, and-false, and_assoc, false≢true}
 use borrow.Author.Tests.{lt-leb}
 use Rattle.laws.specs.Pick.{pick}
 use Rattle.laws.proofs.Bools.{either, both_left, both_right}
 use Rattle.laws.proofs.Order.{split}
 use Rattle.lines.specs.Hex.{digit_byte}
-use Rattle.lines.specs.Line.{is_hex, worth, hex_part, number_at, number_of}
+use Rattle.lines.specs.Line.{is_hex, worth, digit_of, hex_part, number_at, number_of}
+use Rattle.lines.specs.declared.line.Digit.TheVariants as digits
 
 -- past 39h a digit is a letter
 above : (b : ℕ) → 0x39 < b → is_hex b ≡ (leb 0x41 b && leb b 0x46)
@@ -35,6 +36,15 @@ digit_back b h =
     split b 0x30
     (λ m. absurd (false≢true (simp (lt-leb 0x30 b m, lt-leb 0x41 b (omega arith)) at h)))
     (λ m. let w : b - 0x30 < 10 = omega arith in simp (le-leb b 0x39 l, lt-ltb (b - 0x30) 10 w) (omega arith)))
+
+-- what a byte is taken as tells whether it is a digit, and its worth
+pub not_hex : (b : ℕ) → digits.NotHex ≡ digit_of b → is_hex b ≡ false
+unfolding digit_of
+not_hex b = either (is_hex b) (λ t e. absurd (let n : ◌≡◌ {A = ℕ} 0 1 = (let f = rw t at e in cc) in omega arith)) (λ f e. f)
+
+pub as_digit : (b d : ℕ) → digits.Value d ≡ digit_of b → (is_hex b ≡ true) × (d ≡ worth b)
+unfolding digit_of
+as_digit b d = either (is_hex b) (λ t e. (t, let f = rw t at e in cc)) (λ n e. absurd (let m : ◌≡◌ {A = ℕ} 0 1 = (let f = rw n at e in cc) in omega arith))
 
 -- one digit more
 pub hex_more : (line : List ℕ) (at n : ℕ) → hex_part line at (n + 1) ≡ (hex_part line at n && is_hex (get_or line (at + n) 0))
@@ -104,6 +114,10 @@ number_two line at =
     let first = ap (λ (n : ℕ). worth (get_or line n 0)) (add-zero at) in
     omega (arith, number_zero line at, number_more line at 0, number_more line at 1, first)
 
+pub hex_two : (line : List ℕ) (at : ℕ) → hex_part line at 2 ≡ (is_hex (get_or line at 0) && is_hex (get_or line (at + 1) 0))
+unfolding hex_part
+hex_two line at = hex_more line at 1 ∙ ap (λ t. t && is_hex (get_or line (at + 1) 0)) (hex_more line at 0 ∙ ap (λ (n : ℕ). is_hex (get_or line n 0)) (add-zero at))
+
 pub first_hex : (line : List ℕ) (at : ℕ) → hex_part line at 2 ≡ true → is_hex (get_or line at 0) ≡ true
 first_hex line at h = rw add-zero at (digit_within line at 2 0 h (omega arith))
 
@@ -162,5 +176,27 @@ pub two_small : (line : List ℕ) (at : ℕ) → hex_part line at 2 ≡ true →
 two_small line at h = number_small line at 2 h
 
 pub ruleset parts = (six, eight, ten, row, four_small, two_small)
+
+-- what two bytes spell, by what each is taken as
+pub no_first : (l : List ℕ) (at : ℕ) → digits.NotHex ≡ digit_of (get_or l at 0) → None ≡ number_of l at 2
+unfolding number_of
+no_first l at e = simp (hex_two l at, not_hex (get_or l at 0) e)
+
+pub no_second : (l : List ℕ) (at : ℕ) → digits.NotHex ≡ digit_of (get_or l (at + 1) 0) → None ≡ number_of l at 2
+unfolding number_of
+no_second l at e = simp (hex_two l at, not_hex (get_or l (at + 1) 0) e, and-false)
+
+pub both_read : (l : List ℕ) (at h w : ℕ) → digits.Value h ≡ digit_of (get_or l at 0) → digits.Value w ≡ digit_of (get_or l (at + 1) 0) → Some (16 * h + w) ≡ number_of l at 2
+unfolding number_of
+both_read l at h w d e =
+    let a = as_digit (get_or l at 0) h d in
+    let b = as_digit (get_or l (at + 1) 0) w e in
+    let v : 16 * h + w ≡ number_at l at 2 = omega (arith, number_two l at, a.1, b.1) in
+    simp (hex_two l at, a.0, b.0) (ap Some v)
+
+pub digit_small : (b d : ℕ) → digits.Value d ≡ digit_of b → d < 16
+digit_small b d e = let a = as_digit b d e in omega (arith, a.1, worth_small b a.0)
+
+pub ruleset two = (no_first, no_second, both_read, digit_small)
 
 pub ruleset pair = (number_two, first_hex, second_hex, worth_small, two_small)

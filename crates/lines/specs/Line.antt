@@ -1,6 +1,8 @@
 -- Bus script: one frame a line, in upper-case hexadecimal. Assumes nothing.
 use Rattle.std.specs.Prelude.{ℕ, zero, suc, ◌+◌, ◌-◌, ◌*◌, Bool, true, ◌&&◌, ◌||◌, ◌≡◌, Option, Some, None, List, length, ◌==◌, nat_le, slice_index}
 use Rattle.laws.specs.Pick.{pick}
+use Rattle.lines.specs.declared.line.Digit.{Digit}
+use Rattle.lines.specs.declared.line.Digit.TheVariants as digits
 use Rattle.lines.specs.declared.line.Frame.{Frame}
 use Rattle.lines.specs.declared.line.Frame.TheVariants.{Reset, Read, Write, Tick, Row, Malformed}
 
@@ -11,6 +13,10 @@ is_hex b = (nat_le 0x30 b && nat_le b 0x39) || (nat_le 0x41 b && nat_le b 0x46)
 -- what a digit is worth
 abbrev pub worth : ℕ → ℕ
 worth b = pick (nat_le b 0x39) (b - 0x30) (b - 0x41 + 10)
+
+-- a byte taken as a digit
+unfoldable pub digit_of : ℕ → Digit
+digit_of b = pick (is_hex b) (digits.Value (worth b)) digits.NotHex
 
 -- n bytes of a line, from `at` on, are all digits
 unfoldable pub hex_part : List ℕ → ℕ → ℕ → Bool

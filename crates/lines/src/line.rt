@@ -1,10 +1,17 @@
 // A script line, without its LF, to the frame that it says.
 #![tactic(auto, using(crate::proofs::Digits::parts), unfolding(crate::specs::Line::frame_of, crate::specs::Line::spelled, crate::specs::Line::number_of))]
 
-ghost use Rattle.std.specs.Prelude.{◌≡◌, ◌+◌, ◌<◌, ◌≤◌, true, length};
-ghost use Rattle.lines.specs.Line.{is_hex, worth, hex_part, number_at, number_of, Begins, frame_of};
+ghost use Rattle.std.specs.Prelude.{◌≡◌, ◌+◌, ◌<◌, ◌≤◌, true, length, take, drop};
+ghost use Rattle.lines.specs.Line.{is_hex, worth, digit_of, hex_part, number_at, number_of, Begins, frame_of};
 
 use super::reader::LineReader;
+
+// A byte as an upper-case hexadecimal digit. No Option: it has the definition's name, and a reading ends with what is none.
+#[derive(Clone, Copy, PartialEq, Eq, Debug)]
+pub enum Digit {
+    Value(u8),
+    NotHex,
+}
 
 // One frame a line. A row's bytes stay in the line. A line that says none is a frame too, as in the definitions, so this is no Option.
 #[derive(Clone, Copy, PartialEq, Eq, Debug)]
@@ -33,8 +40,35 @@ fn worth_of(b: u8) -> u32
     u32::from(b % 16 + b / 64 * 9)
 }
 
+// A byte as a digit.
+#[tactic(auto, unfolding(crate::specs::Line::digit_of))]
+pub(crate) fn digit_of(b: u8) -> Digit
+    ensures { result ≡ digit_of b }
+{
+    if is_digit(b) {
+        Digit::Value(worth_of(b) as u8)
+    } else {
+        Digit::NotHex
+    }
+}
+
+// The number that two bytes of a line, from `at` on, spell, one digit after the other: what is no digit ends the reading.
+#[tactic(auto, using(crate::proofs::Digits::two))]
+pub(crate) fn two_at(line: &[u8], at: usize) -> Option<u32>
+    requires { at + 2 ≤ length line.now }
+    ensures { result ≡ number_of line.now at 2 }
+{
+    let Digit::Value(high) = digit_of(line[at]) else {
+        return None;
+    };
+    let Digit::Value(low) = digit_of(line[at + 1]) else {
+        return None;
+    };
+    Some(16 * u32::from(high) + u32::from(low))
+}
+
 // Whether all bytes are digits. Nothing is decided at a byte, so that many are looked at together.
-pub(crate) fn all_hex<const N: usize>(bytes: &[u8; N]) -> bool
+fn all_hex<const N: usize>(bytes: &[u8; N]) -> bool
     ensures { result ≡ hex_part bytes.now 0 N }
 {
     bytes.iter().fold(true, |all, b| all & is_digit(*b))
@@ -53,7 +87,7 @@ fn spelt<const N: usize>(digits: &[u8; N]) -> u32
 }
 
 // The number that N bytes spell if they are digits: at most eight. All are looked at before any is added.
-pub(crate) fn number_of<const N: usize>(bytes: &[u8; N]) -> Option<u32>
+fn number_of<const N: usize>(bytes: &[u8; N]) -> Option<u32>
     requires { N ≤ 8 }
     ensures { result ≡ number_of bytes.now 0 N }
 {
@@ -62,6 +96,32 @@ pub(crate) fn number_of<const N: usize>(bytes: &[u8; N]) -> Option<u32>
     } else {
         None
     }
+}
+
+// N bytes of a line, from `at` on.
+fn part<const N: usize>(line: &[u8], at: usize) -> &[u8; N]
+    requires { at + N ≤ length line.now }
+    ensures { result.now ≡ take N (drop at line.now) }
+{
+    line[at..at + N].try_into().unwrap()
+}
+
+// Whether they are all digits.
+#[tactic(auto, using(crate::proofs::Digits::hex_cut))]
+pub(crate) fn all_hex_at<const N: usize>(line: &[u8], at: usize) -> bool
+    requires { at + N ≤ length line.now }
+    ensures { result ≡ hex_part line.now at N }
+{
+    all_hex(part::<N>(line, at))
+}
+
+// The number that they spell: at most eight.
+#[tactic(auto, using(crate::proofs::Digits::of_cut))]
+pub(crate) fn number_at<const N: usize>(line: &[u8], at: usize) -> Option<u32>
+    requires { (at + N ≤ length line.now) × (N ≤ 8) }
+    ensures { result ≡ number_of line.now at N }
+{
+    number_of(part::<N>(line, at))
 }
 
 // `00` reset.
@@ -102,7 +162,7 @@ fn write_line(line: &[u8]) -> Frame
     let Some(address) = reader.number::<4>() else {
         return Frame::Malformed;
     };
-    let Some(byte) = reader.number::<2>() else {
+    let Some(byte) = reader.byte() else {
         return Frame::Malformed;
     };
     Frame::Write(address as u16, byte as u8)
@@ -131,7 +191,7 @@ fn row_line(line: &[u8]) -> Frame
         return Frame::Malformed;
     }
     let mut reader = LineReader::after_kind(line);
-    let Some(y) = reader.number::<2>() else {
+    let Some(y) = reader.byte() else {
         return Frame::Malformed;
     };
     if 0x7F < y {

@@ -1,9 +1,9 @@
 // The line reader: the lent line together with its place in it.
-// What digits mean is read by functions on plain bytes; its methods are thin.
-ghost use Rattle.std.specs.Prelude.{◌≡◌, ◌+◌, ◌≤◌, length, take, drop};
+// What digits mean is read by functions on a slice and a number; its methods are thin.
+ghost use Rattle.std.specs.Prelude.{◌≡◌, ◌+◌, ◌≤◌, length};
 ghost use Rattle.lines.specs.Line.{hex_part, number_of};
 
-use super::line::{all_hex, number_of};
+use super::line::{all_hex_at, number_at, two_at};
 
 #[derive(Clone, Copy)]
 pub struct LineReader<'a> {
@@ -19,35 +19,46 @@ impl<'a> LineReader<'a> {
         LineReader { line, at: 2 }
     }
 
-    // The next N bytes. The reader stands after them then.
-    fn take<const N: usize>(&mut self) -> &'a [u8; N]
-        requires { self.old.at + N ≤ length self.old.line.now }
-        ensures moved { (self.new.line ≡ self.old.line) × (self.new.at ≡ self.old.at + N) }
-        ensures bytes { result.now ≡ take N (drop self.old.at self.old.line.now) }
+    // The reader moves on by n bytes: where it stood.
+    fn pass(&mut self, n: usize) -> usize
+        requires { self.old.at + n ≤ length self.old.line.now }
+        ensures moved { (self.new.line ≡ self.old.line) × (self.new.at ≡ self.old.at + n) }
+        ensures place { result ≡ self.old.at }
     {
-        let bytes = self.line[self.at..self.at + N].try_into().unwrap();
-        self.at += N;
-        bytes
+        let at = self.at;
+        self.at += n;
+        at
     }
 
     // The number that the next N digits spell: at most eight. The reader stands after them then. Inline, so that its place is in no memory.
     #[inline]
-    #[tactic(auto, using(crate::proofs::Digits::of_cut))]
     pub(crate) fn number<const N: usize>(&mut self) -> Option<u32>
         requires { (self.old.at + N ≤ length self.old.line.now) × (N ≤ 8) }
         ensures moved { (self.new.line ≡ self.old.line) × (self.new.at ≡ self.old.at + N) }
         ensures value { result ≡ number_of self.old.line.now self.old.at N }
     {
-        number_of(self.take::<N>())
+        let at = self.pass(N);
+        number_at::<N>(self.line, at)
+    }
+
+    // The number that the next two digits spell, likewise.
+    #[inline]
+    pub(crate) fn byte(&mut self) -> Option<u32>
+        requires { self.old.at + 2 ≤ length self.old.line.now }
+        ensures moved { (self.new.line ≡ self.old.line) × (self.new.at ≡ self.old.at + 2) }
+        ensures value { result ≡ number_of self.old.line.now self.old.at 2 }
+    {
+        let at = self.pass(2);
+        two_at(self.line, at)
     }
 
     // Whether the next N bytes are all digits. The reader stands after them then.
-    #[tactic(auto, using(crate::proofs::Digits::hex_cut))]
     pub(crate) fn all_hex<const N: usize>(&mut self) -> bool
         requires { self.old.at + N ≤ length self.old.line.now }
         ensures moved { (self.new.line ≡ self.old.line) × (self.new.at ≡ self.old.at + N) }
         ensures value { result ≡ hex_part self.old.line.now self.old.at N }
     {
-        all_hex(self.take::<N>())
+        let at = self.pass(N);
+        all_hex_at::<N>(self.line, at)
     }
 }
