@@ -3,6 +3,8 @@ use mathlib.Core.Path.{◌≡◌, refl, sym, ap, ◌∙◌}
 use mathlib.Core.Bool.{Bool, true, false, not, ◌&&◌, and-true}
 use mathlib.Core.List.{List}
 use Prim.Native.Nat.{ℕ, zero, suc, ◌+◌, ◌%◌}
+use native.Mathlib.Nat.{add-zero}
+use native.Mathlib.Omega.{arith}
 use lib.Dec.{eqb, ltb}
 use lib.ListN.{length}
 use borrow.Author.Tests.{eq-eqb, not-true}
@@ -34,6 +36,7 @@ use Rattle.session.specs.Session.{World, row_image, frame_step, step_of}
 use Rattle.session.specs.Aside.{ran_in, ran_of, Carried}
 use Rattle.session.proofs.Six.{said_number, write_said}
 use Rattle.std.proofs.Common.{Option, Some, None}
+use Rattle.lines.proofs.Placed.{placed_none}
 use Rattle.events.specs.declared.event.Kind.{Kind}
 use Rattle.events.specs.declared.event.Kind.TheVariants as kinds
 use Rattle.events.specs.declared.event.Facts.{Facts}
@@ -266,3 +269,14 @@ module _ (rom line b : List ℕ) (w w' : World) (f : Frame) (a : Answer) (is : f
         end = e.end ∙ ap (λ (x : Event). at + length (event_text n x)) event_is;
         few = e.few;
       }
+
+-- where there is no event a line is counted, and nothing is said
+pub quiet_entered : (b counted image ram regs out : List ℕ) (f : Facts) (at : ℕ) (k : Option Kind) → k ≡ None
+    → Entered b counted (event_by b image ram regs f k) out at counted out at
+unfolding event_by event_text event_counted
+quiet_entered b counted image ram regs out f at k e = rw e record {
+  book = refl;
+  text = sym (placed_none out at);
+  end = sym (add-zero at);
+  few = omega arith;
+}

@@ -32,8 +32,22 @@ fn is_row(frame: Frame) -> bool
     matches!(frame, Frame::Row(_))
 }
 
-// Counts a line and its event, and puts its event's text at a place of a buffer.
+// Counts a line.
 #[tactic(auto, unfolding(crate::specs::Line::line_counted))]
+fn counted(book: &mut [u64], step: Step)
+    requires { length book.old ≡ 13 }
+    ensures { book.new ≡ line_counted book.old step.frame step.number }
+{
+    count_line(
+        book,
+        is_malformed(step.frame),
+        is_row(step.frame),
+        step.number,
+    );
+}
+
+// Counts a line and its event, and puts its event's text at a place of a buffer. Without an event a line is counted alone.
+#[tactic(auto, using(crate::proofs::Lines::quiet_entered))]
 fn entered(
     book: &mut [u64],
     step: Step,
@@ -49,14 +63,14 @@ fn entered(
         (event_by book.old image.now ram.now registers.now (facts_of step) (kind_in step)) out.old
         at book.new out.new result }
 {
+    let kind = step.kind();
+    let Some(_) = kind else {
+        counted(book, step);
+        return at;
+    };
     let line = one_more(book[LINES]);
-    let seen = event_of(step.kind(), book, image, ram, step);
-    count_line(
-        book,
-        is_malformed(step.frame),
-        is_row(step.frame),
-        step.number,
-    );
+    let seen = event_of(kind, book, image, ram, step.facts());
+    counted(book, step);
     count_event(book, seen);
     put_event(out, at, line, seen, registers)
 }

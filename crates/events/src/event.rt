@@ -161,7 +161,7 @@ fn end_of(book: &[u64], serial: u16, cycles: u64, plate: u32) -> Seen
     Seen::Touched(serial, cycles, plate, book[WRITES], book[FIRST], book[LAST])
 }
 
-// The event of a line, by its kind; where there is none, nothing that it may say is worked out.
+// The event of a kind.
 #[tactic(auto, unfolding(crate::specs::Aside::event_by, crate::specs::Aside::event_from))]
 // That the RAM's length is allowed stays a clause: it is asked only where a capture ends.
 pub fn event_of(
@@ -169,14 +169,12 @@ pub fn event_of(
     book: &[u64],
     image: &[u8],
     ram: &[u8],
-    step: Step,
+    facts: Facts,
 ) -> Option<Seen>
     requires { (length book.now ≡ 13) × (kind ≡ Some Kind.End → ram_allowed (length ram.now) ≡ true) }
-    ensures { (regs : List ℕ) → event_from result regs ≡ event_by book.now image.now ram.now regs (facts_of step) kind }
+    ensures { (regs : List ℕ) → event_from result regs ≡ event_by book.now image.now ram.now regs facts kind }
 {
-    let kind = kind?;
-    let facts = step.facts();
-    Some(match kind {
+    Some(match kind? {
         Kind::Start => Seen::Start(facts.next, crc32_small(image), book[ROW]),
         Kind::End => end_of(book, facts.serial, facts.cycles, plate_sum(ram)),
         Kind::Drop => Seen::Dropped(facts.serial, facts.cycles),

@@ -23,14 +23,17 @@ pub(crate) fn put_word(out: &mut [u8], at: usize, word: &[u8]) -> usize
 fn count_digits(most: usize, v: u64) -> usize
     ensures { (result ≡ count_in most v) × (result ≤ most) }
 {
+    let mut n = 0;
     let mut rest = v;
-    for n in 0..most {
+    // No `for`: of one the compiler makes twenty tests without a branch, and the audit program worked those out for every line, with an event or without.
+    while n < most {
+        n += 1;
         if rest < 10 {
-            return n + 1;
+            return n;
         }
         rest /= 10;
     }
-    most
+    n
 }
 
 // Puts so many decimal digits of a number into a buffer, the last digit first.

@@ -11,4 +11,4 @@ loop-n-preserved c =
     let a = c.args in
     let l = c.loop-n in
     let e : a.most - l.n - 1 ≡ a.most - (l.n + 1) = omega arith in
-    omega (arith, count_next (a.most - l.n) l.rest (omega arith) (omega arith), ap (λ k. count_in k (l.rest / 10)) e, l.invariant)
+    (omega arith, omega (arith, count_next (a.most - l.n) l.rest (omega arith) (omega arith), ap (λ k. count_in k (l.rest / 10)) e, l.invariant.1))
