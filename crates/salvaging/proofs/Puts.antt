@@ -4,8 +4,7 @@ use mathlib.Core.Bool.{Bool}
 use mathlib.Core.List.{List, [], ◌∷◌, ◌++◌, map}
 use Prim.Native.Nat.{ℕ, zero, suc, ◌+◌, ◌-◌, ◌<◌, ◌≤◌}
 use native.Mathlib.Omega.{arith}
-use lib.ListN.{length, take, drop, set, length-append}
-use lib.Seq.{drop-drop}
+use lib.ListN.{length, take, set, length-append}
 use Rattle.std.specs.List.{sum}
 use Rattle.std.proofs.lemmas.List.Sums.{sum_by-cons}
 use Rattle.lines.specs.Hex.{placed}
@@ -20,12 +19,6 @@ module _ (out : List ℕ) (at : ℕ) (t : List ℕ) (x k : ℕ) (fits : at + len
   stored =
       placed_one (placed out at t) k x (rw (length_placed out at t (omega arith) (omega arith)) (omega arith))
       ∙ placed_next out at t (omega arith) (x ∷ []) k here
-
--- a line's bytes are put, and the LF after them
-pub line_put : (out : List ℕ) (at : ℕ) (line : List ℕ) (x n : ℕ) → n ≡ length line → at + length line < length out
-    → set (take at out ++ (line ++ drop n (drop at out))) (at + length line) x ≡ placed out at (line ++ (x ∷ []))
-unfolding placed
-line_put out at line x n e h = rw (e, drop-drop (length line) at out) (stored out at line x (at + length line) h refl)
 
 -- ---- the next line of a text
 

@@ -1,18 +1,14 @@
 -- The lines of a script, taken one by one: laws of `line_length`, `lines_of` and `accepted_of`. Assumes nothing.
-use Rattle.std.specs.List.{position_or_len, position}
-use Rattle.std.specs.Option.{unwrap_or}
-use Rattle.std.specs.declared.option.Option.{Option}
-use Rattle.std.proofs.lemmas.List.Recursion.{is_position_or_len}
-use mathlib.Core.Path.{◌≡◌, refl, sym, ap, ◌∙◌}
+use mathlib.Core.Path.{◌≡◌, sym, ap, ap₂, ◌∙◌}
 use mathlib.Core.Bool.{true, false}
 use mathlib.Core.List.{List, [], ◌∷◌}
-use Prim.Native.Nat.{ℕ, suc, ◌+◌, ◌-◌, ◌<◌, ◌≤◌, min}
+use Prim.Native.Nat.{ℕ, suc, ◌+◌, ◌-◌, ◌<◌, ◌≤◌}
 use native.Mathlib.Omega.{arith}
-use lib.Dec.{eqb, ltb}
-use lib.ListN.{length, take, drop, length-drop, drop_of_length-le}
-use lib.Seq.{take_all}
-use borrow.Author.Tests.{ltb-false}
-use Rattle.laws.proofs.Order.{split}
+use lib.Dec.{eqb}
+use native.Mathlib.Numerals.{add-one}
+use lib.ListN.{length, get_or, take, drop, length-drop, drop_of_length-le}
+use lib.Seq.{take_all, drop-cons}
+use borrow.Author.Tests.{eq-eqb, ne_eqb}
 use Rattle.laws.proofs.Bools.{either}
 use Rattle.script.specs.Text.{begins, lines_of}
 use Rattle.salvaging.specs.Kept.{accepted, accepted_of}
@@ -20,20 +16,21 @@ use Rattle.salvaging.specs.Aside.{line_length, lines_at}
 
 -- ---- where a line ends
 
--- as std looks for it
-pub first_lf : (s : List ℕ) → line_length s ≡ position_or_len (λ b. eqb b 0x0A) s
-unfolding line_length
-first_lf s = is_position_or_len line_length (λ b. eqb b 0x0A) refl (λ b rest. either (eqb b 0x0A) (λ t. simp t) (λ t. simp t (omega arith))) s
+-- what a text is from byte i on
+pub next : (s : List ℕ) (i : ℕ) → i < length s → drop i s ≡ get_or s i 0 ∷ drop (i + 1) s
+next s i h = drop-cons s i 0 h ∙ ap (λ k. get_or s i 0 ∷ drop k s) (sym (add-one i))
 
-pub lf_within : (s : List ℕ) → line_length s ≤ length s
+pub ends_here : (s : List ℕ) (i : ℕ) → i < length s → get_or s i 0 ≡ 0x0A → line_length (drop i s) ≡ 0
 unfolding line_length
-lf_within [] = omega arith
-lf_within (b ∷ rest) = either (eqb b 0x0A) (λ t. simp t (omega arith)) (λ t. simp t (omega (arith, lf_within rest)))
+ends_here s i h e = ap line_length (next s i h) ∙ simp (eq-eqb (get_or s i 0) 0x0A e)
 
-pub lf_found : (s : List ℕ) (r : Option ℕ) → r ≡ position (λ b. eqb b 0x0A) s → unwrap_or r (length s) ≡ line_length s
-lf_found s r e =
-    rw (e, sym (first_lf s))
-    (either (ltb (line_length s) (length s)) (λ t. simp t) (λ f. simp f (omega (arith, ltb-false (line_length s) (length s) f, lf_within s))))
+pub ends_later : (s : List ℕ) (i : ℕ) → i < length s → (get_or s i 0 ≡ 0x0A → ⊥) → line_length (drop i s) ≡ suc (line_length (drop (i + 1) s))
+unfolding line_length
+ends_later s i h e = ap line_length (next s i h) ∙ simp (ne_eqb (get_or s i 0) 0x0A e)
+
+pub ends_there : (s : List ℕ) (i : ℕ) → length s ≤ i → line_length (drop i s) ≡ 0
+unfolding line_length
+ends_there s i h = ap line_length (drop_of_length-le s h)
 
 -- ---- the first line, and the lines after it
 
@@ -43,21 +40,20 @@ lines_next [] h = absurd (omega arith)
 lines_next (b ∷ []) h = either (eqb b 0x0A) (λ e. simp e) (λ e. simp e)
 lines_next (b ∷ (c ∷ rest)) h = either (eqb b 0x0A) (λ e. simp e) (λ e. simp e (ap (begins b) (lines_next (c ∷ rest) (omega arith))))
 
--- as an iterator takes it: what is left of a text past its first line
-pub line_taken : (t : List ℕ) (n k : ℕ) → 0 < length t → n ≡ line_length t → n ≤ length t → k ≡ min n (length t - 1) → lines_of t ≡ take n t ∷ lines_of (take (length t - (k + 1)) (drop (k + 1) t))
-line_taken t n k h e inside f =
+-- as an iterator takes it: the line before the first LF and what is left past it, or all where there is none
+pub line_taken : (t : List ℕ) (n : ℕ) → n ≡ line_length t → n < length t → lines_of t ≡ take n t ∷ lines_of (take (length t - (n + 1)) (drop (n + 1) t))
+line_taken t n e inside =
+    let all : take (length t - (n + 1)) (drop (n + 1) t) ≡ drop (n + 1) t = take_all (length t - (n + 1)) (drop (n + 1) t) (omega (arith, length-drop (n + 1) t)) in
+    let past : suc n ≡ n + 1 = omega arith in
+    lines_next t (omega arith)
+    ∙ ap (λ (m : ℕ). take m t ∷ lines_of (drop (suc m) t)) (sym e)
+    ∙ ap (λ (r : List ℕ). take n t ∷ lines_of r) (ap (λ (j : ℕ). drop j t) past ∙ sym all)
+
+pub last_taken : (t : List ℕ) → 0 < length t → length t ≡ line_length t → lines_of t ≡ t ∷ lines_of []
+last_taken t h e =
     lines_next t h
     ∙ ap (λ (m : ℕ). take m t ∷ lines_of (drop (suc m) t)) (sym e)
-    ∙ ap (λ (r : List ℕ). take n t ∷ lines_of r) (split n (length t) (λ l. before l) (λ l. past l))
-  where
-    all : take (length t - (k + 1)) (drop (k + 1) t) ≡ drop (k + 1) t
-    all = take_all (length t - (k + 1)) (drop (k + 1) t) (omega (arith, length-drop (k + 1) t))
-
-    before : n < length t → drop (suc n) t ≡ take (length t - (k + 1)) (drop (k + 1) t)
-    before l = let m : suc n ≡ k + 1 = omega arith in ap (λ (j : ℕ). drop j t) m ∙ sym all
-
-    past : length t ≤ n → drop (suc n) t ≡ take (length t - (k + 1)) (drop (k + 1) t)
-    past l = drop_of_length-le t {i = suc n} (omega arith) ∙ sym (all ∙ drop_of_length-le t {i = k + 1} (omega arith))
+    ∙ ap₂ (λ (x y : List ℕ). x ∷ lines_of y) (take_all (length t) t (omega arith)) (drop_of_length-le t {i = suc (length t)} (omega arith))
 
 -- an accepted line is the first of those that are left, and a malformed one is none of them
 pub accepted_first : {lines rest : List (List ℕ)} {line : List ℕ} → lines ≡ line ∷ rest → accepted line ≡ true → accepted_of lines ≡ line ∷ accepted_of rest

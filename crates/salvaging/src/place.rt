@@ -1,9 +1,8 @@
 // The lines of a script, one after the other: all of them, or the accepted ones, and how many there are.
-ghost use Rattle.std.specs.Prelude.{◌≡◌, ◌≤◌, ◌==◌, length, position};
+ghost use Rattle.std.specs.Prelude.{◌≡◌, ◌≤◌, length};
 ghost use Rattle.std.specs.Iterator.{YieldsFirstRef, item_count};
 ghost use Rattle.script.specs.Text.{lines_of};
 ghost use Rattle.salvaging.specs.Kept.{accepted, accepted_of};
-ghost use Rattle.salvaging.specs.Aside.{line_length};
 
 use lines::line::{Frame, frame_of};
 
@@ -25,14 +24,20 @@ impl<'a> Iterator for Lines<'a> {
 
     ghost remaining = { item_count (λ s. lines_of s.0.now) };
 
+    // By place, which is the line's length too: by `position` a script of empty lines took twice as long to salvage.
     fn next(&mut self) -> Option<&'a [u8]> {
         let script = self.0;
         if script.is_empty() {
             return None;
         }
-        let end = line_end(script);
-        self.0 = &script[end.min(script.len() - 1) + 1..];
-        Some(&script[..end])
+        for end in 0..script.len() {
+            if script[end] == 0x0A {
+                self.0 = &script[end + 1..];
+                return Some(&script[..end]);
+            }
+        }
+        self.0 = &[];
+        Some(script)
     }
 }
 
@@ -62,21 +67,6 @@ pub(crate) fn is_accepted(line: &[u8]) -> bool
     ensures { result ≡ accepted line.now }
 {
     !matches!(frame_of(line), Frame::Malformed)
-}
-
-// Where the first LF stands.
-fn first_lf(script: &[u8]) -> Option<usize>
-    ensures { result ≡ position (λ b. b == 0x0A) script.now }
-{
-    script.iter().position(|b| *b == 0x0A)
-}
-
-// How many bytes a text has before its first LF, or altogether where it has none. Not `short::line_end`: `line_length` is what `lines_of` is made of; that one
-// says `Ends`.
-fn line_end(script: &[u8]) -> usize
-    ensures { (result ≡ line_length script.now) × (result ≤ length script.now) }
-{
-    first_lf(script).unwrap_or(script.len())
 }
 
 // How many lines a script has.

@@ -46,9 +46,11 @@ fn put_line(text: &mut [u8], at: usize, line: &[u8])
     requires { at + (length line.now + 1) ≤ length text.old }
     ensures { text.new ≡ placed text.old at (ended line.now) }
 {
-    let end = at + line.len();
-    text[at..end].copy_from_slice(line);
-    text[end] = 0x0A;
+    // By place: `copy_from_slice` calls memmove (`save::parts::put`).
+    for i in 0..line.len() {
+        text[at + i] = line[i];
+    }
+    text[at + line.len()] = 0x0A;
 }
 
 // Puts the first n accepted lines, each with its LF. The place goes on by each line's length, so no iterator knows it.

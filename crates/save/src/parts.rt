@@ -16,7 +16,10 @@ pub(crate) fn put(from: &[u8], to: &mut [u8], at: usize)
     requires { at + length from.now ≤ length to.old }
     ensures { to.new ≡ take at to.old ++ (from.now ++ drop (at + length from.now) to.old) }
 {
-    to[at..at + from.len()].copy_from_slice(from);
+    // By place: `copy_from_slice` of so many bytes calls memmove, which C would have to bring.
+    for i in 0..from.len() {
+        to[at + i] = from[i];
+    }
 }
 
 // Whether bytes are a record, and one that can exist.

@@ -188,11 +188,6 @@ goes_on_lem end n room r e t =
 
 -- ---- the bytes that are held
 
--- a part of a buffer that bytes are copied into
-pub placed_part : (out : List ℕ) (at n k : ℕ) (t : List ℕ) → n ≡ length t → k ≡ n → take at out ++ (t ++ drop k (drop at out)) ≡ placed out at t
-unfolding placed
-placed_part out at n k t e f = rw (f, e, drop-drop (length t) at out)
-
 -- of a list as many elements as there are, but no more
 pub few_taken : (n : ℕ) (bytes : List ℕ) (m : ℕ) → m ≡ min (length bytes) n → take m bytes ≡ take n bytes
 few_taken n bytes m e =

@@ -53,7 +53,10 @@ pub fn hold(line: &mut [u8], held: usize, bytes: &[u8]) -> usize
         × (result ≡ held + length (take (261 - held) bytes.now)) × (result ≤ 261) }
 {
     let n = bytes.len().min(HELD - held); // the others are skipped
-    line[held..held + n].copy_from_slice(&bytes[..n]);
+    // By place: `copy_from_slice` calls memmove (`save::parts::put`).
+    for i in 0..n {
+        line[held + i] = bytes[i];
+    }
     held + n
 }
 
