@@ -4,7 +4,8 @@
 ghost use Rattle.std.specs.Prelude.{◌≡◌, ◌++◌, ℕ, ◌+◌, ◌/◌, ◌%◌, ◌≤◌, length, drop};
 ghost use Rattle.laws.specs.Lists.{listed};
 ghost use Rattle.lighting.specs.Aside.{Sane};
-ghost use Rattle.lighting.specs.Light.{byte_at};
+ghost use Rattle.lighting.specs.Light.{Within, byte_at};
+ghost use Rattle.rows.specs.Aside.{Carried, value_row};
 ghost use Rattle.sensor.specs.Shade.{value_at};
 ghost use Rattle.controller.specs.Outcome.{verdict_number};
 ghost use Rattle.controller.specs.Table.{lowest};
@@ -17,6 +18,21 @@ use lighting::Setting;
 use plates::grey::{FILE, put_header};
 use rows::{first_row, next_row};
 
+// The values of a row, put where they are to stand. They are lent on as an array by `as_mut_array`, since after `try_into` nothing is known of a slice.
+fn put_row(store: &[u8; 16384], set: Setting, row: usize, carried: &mut [u8; 128], out: &mut [u8])
+    requires out_len { length out.old ≡ 128 }
+    requires inside { Within 0 row 8 119 }
+    requires sane { Sane set }
+    requires carried { Carried (byte_at store.now) set row carried.old }
+    ensures { (out.new ≡ value_row (byte_at store.now) set row)
+        × Carried (byte_at store.now) set (row + 1) carried.new }
+{
+    let Some(values) = out.as_mut_array() else {
+        unreachable!()
+    };
+    next_row(store, set, row, carried, values);
+}
+
 // All values, row by row: picture row y is sensor row y + 8. What a row needs of the next one is carried on.
 // The values are written, so they stay a slice; by place, since after `chunks_exact_mut` a proof knows nothing of what was written.
 fn put_values(store: &[u8; 16384], set: Setting, values: &mut [u8])
@@ -27,10 +43,14 @@ fn put_values(store: &[u8; 16384], set: Setting, values: &mut [u8])
     let mut carried = [0u8; 128];
     first_row(store, set, 8, &mut carried);
     for y in 0..112 {
-        let mut row = [0u8; 128];
-        next_row(store, set, y + 8, &mut carried, &mut row);
         let start = 128 * y;
-        values[start..start + 128].copy_from_slice(&row);
+        put_row(
+            store,
+            set,
+            y + 8,
+            &mut carried,
+            &mut values[start..start + 128],
+        );
     }
 }
 

@@ -76,6 +76,7 @@ pub(crate) fn step_4(store: &[u8; 16384], set: Setting, x: usize, row: usize) ->
 {
     let quarters = set.quarters;
     match set.mode {
+        0x0 => signed_at(store, x, row),
         0x1 => 0,
         0x2 => filter::<0x2>(quarters, nine(store, x, row)),
         0x3 => filter::<0x3>(quarters, nine(store, x, row)),

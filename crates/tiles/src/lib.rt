@@ -52,10 +52,10 @@ pub fn pair_at(t: usize, y: usize) -> usize
 }
 
 // Puts the pixels from j to end, which stand in the same two bytes: these are read once, and stored once.
-fn put_part(ram: &mut [u8], frame: &Frame, j: usize, end: usize)
+fn put_part(ram: &mut [u8], frame: Frame<'_>, j: usize, end: usize)
     requires range { (j ≤ end) × (j < 14336) × (end ≤ 8 * (j / 8) + 8) }
     requires ram_len { 8192 ≤ length ram.old }
-    ensures { ram.new ≡ pixels (byte_at frame.now.store.now) frame.now.regs.now j end ram.old }
+    ensures { ram.new ≡ pixels (byte_at frame.entry.store.now) frame.entry.regs.now j end ram.old }
 {
     let y = j / 128;
     let o = PICTURE + pair_at(j % 128 / 8, y);
@@ -78,17 +78,17 @@ fn put_part(ram: &mut [u8], frame: &Frame, j: usize, end: usize)
 fn put_line(
     out: &mut [u8],
     at: usize,
-    frame: &Frame,
+    frame: Frame<'_>,
     matrix: &[u8; 1536],
     y: usize,
     carried: &mut [u8; 128],
     values: &mut [u8; 128],
 )
     requires at_in_bounds { (at + 3584 ≤ length out.old) × (y < 112) }
-    requires matrix { matrix.now ≡ spread_of frame.now.regs.now }
-    requires carried { Carried (byte_at frame.now.store.now) frame.now.set (y + 8) carried.old }
-    ensures { (out.new ≡ put_pairs (byte_at frame.now.store.now) frame.now.regs.now at (16 * y) 16 out.old)
-        × Carried (byte_at frame.now.store.now) frame.now.set (y + 8 + 1) carried.new }
+    requires matrix { matrix.now ≡ spread_of frame.regs.now }
+    requires carried { Carried (byte_at frame.store.now) frame.set (y + 8) carried.old }
+    ensures { (out.new ≡ put_pairs (byte_at frame.entry.store.now) frame.entry.regs.now at (16 * y) 16 out.old)
+        × Carried (byte_at frame.entry.store.now) frame.entry.set (y + 8 + 1) carried.new }
 {
     rows::next_row(frame.store, frame.set, y + 8, carried, values);
     let mut low = [0u8; 16];
@@ -104,9 +104,9 @@ fn put_line(
 }
 
 // Puts as many rows of it, from one on.
-fn put_rows(out: &mut [u8], at: usize, frame: &Frame, first: usize, count: usize)
+fn put_rows(out: &mut [u8], at: usize, frame: Frame<'_>, first: usize, count: usize)
     requires at_in_bounds { (at + 3584 ≤ length out.old) × (first < 112) × (first + count ≤ 112) }
-    ensures { out.new ≡ put_pairs (byte_at frame.now.store.now) frame.now.regs.now at (16 * first) (16 * count) out.old }
+    ensures { out.new ≡ put_pairs (byte_at frame.entry.store.now) frame.entry.regs.now at (16 * first) (16 * count) out.old }
 {
     let mut matrix = [0u8; 1536];
     strips::spread(frame.regs, &mut matrix);
@@ -119,10 +119,10 @@ fn put_rows(out: &mut [u8], at: usize, frame: &Frame, first: usize, count: usize
 }
 
 // Puts the pixels from..to, two bytes at a time.
-fn put_parts(ram: &mut [u8], frame: &Frame, from: usize, to: usize)
+fn put_parts(ram: &mut [u8], frame: Frame<'_>, from: usize, to: usize)
     requires range { (from ≤ to) × (to ≤ 14336) }
     requires ram_len { 8192 ≤ length ram.old }
-    ensures { ram.new ≡ pixels (byte_at frame.now.store.now) frame.now.regs.now from to ram.old }
+    ensures { ram.new ≡ pixels (byte_at frame.entry.store.now) frame.entry.regs.now from to ram.old }
 {
     for n in from / 8..to.div_ceil(8) {
         put_part(ram, frame, from.max(8 * n), to.min(8 * n + 8));
@@ -148,11 +148,11 @@ pub fn put_pixels(
     let first = from.div_ceil(128);
     let end = to / 128;
     if first < end {
-        put_parts(ram, &frame, from, 128 * first);
-        put_rows(ram, PICTURE, &frame, first, end - first);
-        put_parts(ram, &frame, 128 * end, to);
+        put_parts(ram, frame, from, 128 * first);
+        put_rows(ram, PICTURE, frame, first, end - first);
+        put_parts(ram, frame, 128 * end, to);
     } else if from < to {
-        put_parts(ram, &frame, from, to);
+        put_parts(ram, frame, from, to);
     }
 }
 
@@ -163,5 +163,5 @@ pub fn fill(store: &[u8; 16384], set: Setting, regs: &[u8; 54], out: &mut [u8; 3
     ensures { out.new ≡ picture_of (byte_at store.now) regs.now }
 {
     let frame = Frame { store, set, regs };
-    put_rows(out, 0, &frame, 0, 112);
+    put_rows(out, 0, frame, 0, 112);
 }

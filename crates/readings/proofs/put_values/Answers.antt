@@ -13,7 +13,7 @@ loop-y-preserved c =
     let k : 128 * y + 128 - 128 * y ≡ 128 = omega arith in
     let next : y + 8 + 1 ≡ y + 1 + 8 = omega arith in
     let to : 128 * y + 128 ≡ 128 * (y + 1) = omega arith in
-    (omega arith, rw next at c.next_row.ensures.1, filled_to _ (rw k (filled_part _ 128 l.invariant.2 (c.copy_from_slice.ensures.after ∙ c.next_row.ensures.0 ∙ row_listed _ _ y) (omega arith))) to)
+    (omega arith, rw next at c.put_row.ensures.1, filled_to _ (rw k (filled_part _ 128 l.invariant.2 (c.put_row.ensures.0 ∙ row_listed _ _ y) (omega arith))) to)
 
 pub returns : goal.returns
 returns c = filled_end _ _ c.loop-y.invariant.2 (omega arith)

@@ -18,13 +18,13 @@ loop-t-preserved c =
     let l = c.loop-t in
     let inside : l.t < 16 = omega arith in
     let a = c.args in
-    let lit = byte_at a.frame.now.store.now in
-    let regs = a.frame.now.regs.now in
+    let lit = byte_at a.frame.store.now in
+    let regs = a.frame.regs.now in
     let y = a.y in
     let v = c.next_row.ensures.0 in
-    let q = a.frame.now.asked.same in
-    let low = low_made lit regs a.frame.now.set q l.t y inside v c.shade_row.ensures.0 in
-    let high = high_made lit regs a.frame.now.set q l.t y inside v c.shade_row.ensures.1 in
+    let q = a.frame.asked.same in
+    let low = low_made lit regs a.frame.set q l.t y inside v c.shade_row.ensures.0 in
+    let high = high_made lit regs a.frame.set q l.t y inside v c.shade_row.ensures.1 in
     pair_stored lit regs a.at l.out l.t y _ _ _ inside (omega (arith, c.pair_at.ensures)) low high
     ∙ ap (put_pair lit regs a.at (16 * y + l.t)) l.invariant
     ∙ sym (pairs_more lit regs a.at (16 * y) l.t a.out.now)

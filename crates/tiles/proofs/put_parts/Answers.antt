@@ -15,12 +15,12 @@ pub loop-n-preserved : goal.loop-n-preserved
 loop-n-preserved c =
     let a = c.args in
     let l = c.loop-n in
-    let lit = byte_at a.frame.now.store.now in
+    let lit = byte_at a.frame.store.now in
     let low = c.max.result in
     let high = c.min.result in
     let p : min a.to (max a.from (8 * l.n)) ≡ low = omega arith in
     let q : min a.to (max a.from (8 * (l.n + 1))) ≡ high = omega arith in
     rw q
     (c.put_part.ensures
-    ∙ ap (pixels lit a.frame.now.regs.now low high) (rw p at l.invariant)
-    ∙ pixels_join lit a.frame.now.regs.now a.from low high a.ram.now (omega arith) (omega arith))
+    ∙ ap (pixels lit a.frame.regs.now low high) (rw p at l.invariant)
+    ∙ pixels_join lit a.frame.regs.now a.from low high a.ram.now (omega arith) (omega arith))

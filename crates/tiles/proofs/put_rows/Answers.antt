@@ -15,12 +15,12 @@ loop-y-preserved c =
     let p = c.put_line in
     let l = c.loop-y in
     let a = c.args in
-    let lit = byte_at a.frame.now.store.now in
+    let lit = byte_at a.frame.store.now in
     let e : l.y + 8 + 1 ≡ l.y + 1 + 8 = omega arith in
     let f : 16 * l.y ≡ 16 * a.first + 16 * (l.y - a.first) = omega arith in
     let g : 16 * (l.y - a.first) + 16 ≡ 16 * (l.y + 1 - a.first) = omega arith in (
       rw e at p.ensures.1,
       rw f at p.ensures.0
-          ∙ ap (put_pairs lit a.frame.now.regs.now a.at (16 * a.first + 16 * (l.y - a.first)) 16) l.invariant.1
-          ∙ rw g at (pairs_join lit a.frame.now.regs.now a.at (16 * a.first) (16 * (l.y - a.first)) 16 a.out.now),
+          ∙ ap (put_pairs lit a.frame.regs.now a.at (16 * a.first + 16 * (l.y - a.first)) 16) l.invariant.1
+          ∙ rw g at (pairs_join lit a.frame.regs.now a.at (16 * a.first) (16 * (l.y - a.first)) 16 a.out.now),
     )
